@@ -1,0 +1,5 @@
+pub mod Digits
+pub mod Pair
+pub mod Quads
+pub mod Word
+pub mod Spread

@@ -1,0 +1,7 @@
+use mathlib.Core.Path.{refl}
+use Rattle.cube.specs.MinMax.{pair-slots}
+use Rattle.cube.proofs.min_max.MinMaxNotation.blank.Needs as need
+
+pub returns : need.returns
+unfolding pair-slots
+returns c = refl

@@ -1,0 +1,17 @@
+use mathlib.Core.Path.{ap, ap₂, _∙_}
+use Prim.Native.Nat.{_-_, _<_}
+use native.Mathlib.Omega.{arith}
+use lib.ListN.{set}
+use Rattle.cube.specs.Fields.{word-slots}
+use Rattle.cube.proofs.Word.{put-field-code, set-word}
+use Rattle.cube.proofs.positional.PositionalNotation.set.Needs as need
+
+pub returns : need.returns
+returns c =
+    let k = c .number .result - 1 in
+    let w = c .args .self .word in
+    let d = c .slot-field-field .result in
+    let h = c .slot-field-field .ensures .field in
+    let within : k < 31 = omega arith in
+    ap (word-slots 20) (put-field-code w k d h within) ∙ set-word 20 k w d h
+    ∙ ap₂ (λ i v. set (word-slots 20 w) (i - 1) v) (c .number .ensures .value) (c .slot-field-field .ensures .means)

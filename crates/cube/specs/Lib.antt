@@ -1,0 +1,6 @@
+pub mod Refusals
+pub mod Ranges
+pub mod Slots
+pub mod Says
+pub mod MinMax
+pub mod Fields
