@@ -1,10 +1,11 @@
 -- The bit operations digit by digit, in base 2, and a rule on digits proved at each of them. Assumes nothing.
 use mathlib.Core.Path.{_≡_, refl, sym, subst, ap, ap₂, _∙_}
 use mathlib.Core.Logic.{_⊎_, inl, inr, ⊎-elim}
-use mathlib.Core.Bool.{Bool, true, false, _&&_}
-use Prim.Native.Nat.{ℕ, zero, suc, _+_, _*_, _/_, _%_, _^_, _<_, _≤_}
+use mathlib.Core.Bool.{_&&_}
+use Prim.Native.Nat.{ℕ, zero, suc, _+_, _*_, _/_, _%_, _^_, _<_}
 use native.Mathlib.Omega.{arith}
-use lib.Bits.{bitAnd, bitOr, bitXor, xor-zero-r, xor-lt, and-mask, shifted-half, shifted-even, and-shr, or-shr, xor-shr, and-mod, or-mod, xor-mod}
+use lib.Bits.{bitAnd, bitOr, bitXor, xor-zero-r, xor-lt, and-mask, shifted-half, shifted-even, and-shr}
+use lib.Bits.{or-shr, xor-shr, and-mod, or-mod, xor-mod}
 use lib.Dec.{eqb}
 use native.Mathlib.Nat.{div-one, mul-one}
 use Rattle.std.proofs.shelf.Bits.{shl-whole, shr-shr}
@@ -58,11 +59,14 @@ at-digit P h x =
 pub at-digits-2 : (P : ℕ → ℕ → Type 0) → Both (λ p. Both (P p)) → (x y : ℕ) → P (x % 2) (y % 2)
 at-digits-2 P h x y = at-digit (P (x % 2)) (at-digit (λ p. Both (P p)) h x) y
 
-pub at-digits-3 : (P : ℕ → ℕ → ℕ → Type 0) → Both (λ p. Both (λ q. Both (P p q))) → (x y z : ℕ) → P (x % 2) (y % 2) (z % 2)
+pub at-digits-3 : (P : ℕ → ℕ → ℕ → Type 0) → Both (λ p. Both (λ q. Both (P p q))) → (x y z : ℕ)
+    → P (x % 2) (y % 2) (z % 2)
 at-digits-3 P h x y z = at-digits-2 (P (x % 2)) (at-digit (λ p. Both (λ q. Both (P p q))) h x) y z
 
-pub at-digits-4 : (P : ℕ → ℕ → ℕ → ℕ → Type 0) → Both (λ p. Both (λ q. Both (λ r. Both (P p q r)))) → (x y z w : ℕ) → P (x % 2) (y % 2) (z % 2) (w % 2)
-at-digits-4 P h x y z w = at-digits-3 (P (x % 2)) (at-digit (λ p. Both (λ q. Both (λ r. Both (P p q r)))) h x) y z w
+pub at-digits-4 : (P : ℕ → ℕ → ℕ → ℕ → Type 0) → Both (λ p. Both (λ q. Both (λ r. Both (P p q r))))
+    → (x y z w : ℕ) → P (x % 2) (y % 2) (z % 2) (w % 2)
+at-digits-4 P h x y z w =
+    at-digits-3 (P (x % 2)) (at-digit (λ p. Both (λ q. Both (λ r. Both (P p q r)))) h x) y z w
 
 -- ---- one digit
 
@@ -75,7 +79,8 @@ abbrev pub put : ℕ → ℕ → ℕ → ℕ
 put x k d = bitXor x (bitXor (x / 2 ^ k % 2) d * 2 ^ k)
 
 -- as the code does at 32 bits
-pub put-code : (x k d : ℕ) → d < 2 → k < 31 → bitXor x ((bitXor (bitAnd (x / 2 ^ k) 1) d * 2 ^ k) % 2 ^ 32) ≡ put x k d
+pub put-code : (x k d : ℕ) → d < 2 → k < 31
+    → bitXor x ((bitXor (bitAnd (x / 2 ^ k) 1) d * 2 ^ k) % 2 ^ 32) ≡ put x k d
 put-code x k d hd hk =
     ap (bitXor x) (ap (λ e. (bitXor e d * 2 ^ k) % 2 ^ 32) (and-mask (x / 2 ^ k) 1)
     ∙ shl-whole (bitXor (x / 2 ^ k % 2) d) 1 k 32 (xor-lt 1 _ _ (omega arith) hd) (omega arith))
@@ -100,7 +105,8 @@ put-here-odd x d h =
 pub put-later-half : (x k d : ℕ) → put x (suc k) d / 2 ≡ put (x / 2) k d
 put-later-half x k d =
     xor-half x (bitXor (x / 2 ^ suc k % 2) d * 2 ^ suc k)
-    ∙ ap (bitXor (x / 2)) (shifted-half (bitXor (x / 2 ^ suc k % 2) d) k ∙ ap (λ y. bitXor (y % 2) d * 2 ^ k) (past-half x k))
+    ∙ ap (bitXor (x / 2)) (shifted-half (bitXor (x / 2 ^ suc k % 2) d) k
+    ∙ ap (λ y. bitXor (y % 2) d * 2 ^ k) (past-half x k))
 
 pub put-later-odd : (x k d : ℕ) → put x (suc k) d % 2 ≡ x % 2
 put-later-odd x k d =

@@ -1,10 +1,10 @@
 -- The bit operations in base 4, and a rule on digits proved at each of them. Assumes nothing.
-use mathlib.Core.Path.{_≡_, refl, sym, subst, ap, ap₂, _∙_}
+use mathlib.Core.Path.{_≡_, sym, subst}
 use mathlib.Core.Logic.{_⊎_, inl, inr, ⊎-elim}
-use mathlib.Core.Bool.{Bool, true, false, _&&_}
-use Prim.Native.Nat.{ℕ, zero, suc, _+_, _*_, _/_, _%_, _^_, _<_, _≤_}
+use mathlib.Core.Bool.{_&&_}
+use Prim.Native.Nat.{ℕ, _/_, _%_}
 use native.Mathlib.Omega.{arith}
-use lib.Bits.{bitAnd, bitOr, bitXor, and-mask, and-shr, or-shr, xor-shr, and-mod, or-mod, xor-mod}
+use lib.Bits.{bitAnd, bitOr, bitXor, and-shr, or-shr, xor-shr, and-mod, or-mod, xor-mod}
 use lib.Dec.{eqb}
 use Rattle.std.proofs.shelf.Ways.{tells}
 use Rattle.std.proofs.shelf.Tests.{cases-eq}
@@ -38,7 +38,8 @@ quad : (x : ℕ) → (0 ≡ x % 4) ⊎ ((1 ≡ x % 4) ⊎ ((2 ≡ x % 4) ⊎ (3 
 quad x =
     ⊎-elim (λ e. inl (sym e)) (λ n. inr (
     ⊎-elim (λ e. inl (sym e)) (λ m. inr (
-    ⊎-elim (λ e. inl (sym e)) (λ l. inr (omega arith)) (cases-eq (x % 4) 2))) (cases-eq (x % 4) 1))) (cases-eq (x % 4) 0)
+    ⊎-elim (λ e. inl (sym e)) (λ l. inr (omega arith)) (cases-eq (x % 4) 2))) (cases-eq (x % 4) 1)))
+    (cases-eq (x % 4) 0)
 
 -- a rule at each digit
 abbrev pub Each : (ℕ → Type 0) → Type 0
@@ -46,7 +47,8 @@ Each P = P 0 × P 1 × P 2 × P 3
 
 pub at-quad : (P : ℕ → Type 0) → Each P → (x : ℕ) → P (x % 4)
 at-quad P h x =
-    ⊎-elim (λ e. subst P e (h .0)) (⊎-elim (λ e. subst P e (h .1)) (⊎-elim (λ e. subst P e (h .2)) (λ e. subst P e (h .3)))) (quad x)
+    ⊎-elim (λ e. subst P e (h .0))
+    (⊎-elim (λ e. subst P e (h .1)) (⊎-elim (λ e. subst P e (h .2)) (λ e. subst P e (h .3)))) (quad x)
 
 pub at-quads-2 : (P : ℕ → ℕ → Type 0) → Each (λ p. Each (P p)) → (x y : ℕ) → P (x % 4) (y % 4)
 at-quads-2 P h x y = at-quad (P (x % 4)) (at-quad (λ p. Each (P p)) h x) y

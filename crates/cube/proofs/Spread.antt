@@ -1,8 +1,9 @@
--- Five shifts and masks spread twenty digits apart. Each is linear over `or`, so it is enough to see where each digit goes, which antt computes.
+-- Five shifts and masks spread twenty digits apart.
+-- Each is linear over `or`, so it is enough to see where each digit goes, which antt computes.
 -- Assumes nothing.
 use mathlib.Core.Path.{_≡_, refl, sym, ap, ap₂, subst, _∙_}
-use mathlib.Core.Bool.{Bool, true, false, _&&_}
-use Prim.Native.Nat.{ℕ, zero, suc, _+_, _*_, _/_, _%_, _-_, _^_, _<_, _≤_}
+use mathlib.Core.Bool.{Bool, true, _&&_}
+use Prim.Native.Nat.{ℕ, zero, suc, _+_, _*_, _/_, _%_, _^_, _<_, _≤_}
 use native.Mathlib.Omega.{arith}
 use native.Mathlib.Nat.{div-one, mod-one, zero-mul, add-zero, mod-lt}
 use lib.Arith.{half-le}
@@ -18,8 +19,10 @@ use Rattle.cube.proofs.Word.{shifted}
 
 -- ---- two expressions of three words that work digit by digit are equal where they are at digits
 module _ (F G : ℕ → ℕ → ℕ → ℕ)
-    (F-half : (a b c : ℕ) → F a b c / 2 ≡ F (a / 2) (b / 2) (c / 2)) (G-half : (a b c : ℕ) → G a b c / 2 ≡ G (a / 2) (b / 2) (c / 2))
-    (F-odd : (a b c : ℕ) → F a b c % 2 ≡ F (a % 2) (b % 2) (c % 2)) (G-odd : (a b c : ℕ) → G a b c % 2 ≡ G (a % 2) (b % 2) (c % 2))
+    (F-half : (a b c : ℕ) → F a b c / 2 ≡ F (a / 2) (b / 2) (c / 2))
+    (G-half : (a b c : ℕ) → G a b c / 2 ≡ G (a / 2) (b / 2) (c / 2))
+    (F-odd : (a b c : ℕ) → F a b c % 2 ≡ F (a % 2) (b % 2) (c % 2))
+    (G-odd : (a b c : ℕ) → G a b c % 2 ≡ G (a % 2) (b % 2) (c % 2))
     (table : Both (λ p. Both (λ q. Both (λ r. F p q r ≡ G p q r)))) where
   upto : (n a b c : ℕ) → a ≤ n → b ≤ n → c ≤ n → F a b c ≡ G a b c
   upto zero a b c ha hb hc =
@@ -29,8 +32,10 @@ module _ (F G : ℕ → ℕ → ℕ → ℕ)
       ap (λ x. F x b c) p ∙ ap (λ y. F 0 y c) q ∙ ap (F 0 0) r ∙ table .0 .0 .0
       ∙ sym (ap (λ x. G x b c) p ∙ ap (λ y. G 0 y c) q ∙ ap (G 0 0) r)
   upto (suc n) a b c ha hb hc =
-      let hi : F a b c / 2 ≡ G a b c / 2 = F-half a b c ∙ upto n (a / 2) (b / 2) (c / 2) (half-le ha) (half-le hb) (half-le hc) ∙ sym (G-half a b c) in
-      let lo : F a b c % 2 ≡ G a b c % 2 = F-odd a b c ∙ at-digits-3 (λ p q r. F p q r ≡ G p q r) table a b c ∙ sym (G-odd a b c) in
+      let hi : F a b c / 2 ≡ G a b c / 2 =
+      F-half a b c ∙ upto n (a / 2) (b / 2) (c / 2) (half-le ha) (half-le hb) (half-le hc) ∙ sym (G-half a b c) in
+      let lo : F a b c % 2 ≡ G a b c % 2 =
+      F-odd a b c ∙ at-digits-3 (λ p q r. F p q r ≡ G p q r) table a b c ∙ sym (G-odd a b c) in
       omega arith
 
   pub by-digits : (a b c : ℕ) → F a b c ≡ G a b c
@@ -43,7 +48,8 @@ or-assoc = by-digits (λ a b c. bitOr (bitOr a b) c) (λ a b c. bitOr a (bitOr b
 
 pub and-or : (a b c : ℕ) → bitAnd (bitOr a b) c ≡ bitOr (bitAnd a c) (bitAnd b c)
 and-or = by-digits (λ a b c. bitAnd (bitOr a b) c) (λ a b c. bitOr (bitAnd a c) (bitAnd b c))
-    (λ a b c. simp (and-half, or-half)) (λ a b c. simp (and-half, or-half)) (λ a b c. simp (and-odd, or-odd)) (λ a b c. simp (and-odd, or-odd))
+    (λ a b c. simp (and-half, or-half)) (λ a b c. simp (and-half, or-half))
+    (λ a b c. simp (and-odd, or-odd)) (λ a b c. simp (and-odd, or-odd))
     (((refl, refl), (refl, refl)), ((refl, refl), (refl, refl)))
 
 or-swap : (a b c d : ℕ) → bitOr (bitOr a b) (bitOr c d) ≡ bitOr (bitOr a c) (bitOr b d)
@@ -54,7 +60,8 @@ or-swap a b c d =
 
 or-shl : (a b s : ℕ) → bitOr a b * 2 ^ s ≡ bitOr (a * 2 ^ s) (b * 2 ^ s)
 or-shl a b s =
-    sym (ap₂ bitOr (sym (add-zero (a * 2 ^ s))) (sym (add-zero (b * 2 ^ s))) ∙ or-block s a b 0 0 (pow-pos s) (pow-pos s) ∙ add-zero _)
+    sym (ap₂ bitOr (sym (add-zero (a * 2 ^ s))) (sym (add-zero (b * 2 ^ s)))
+    ∙ or-block s a b 0 0 (pow-pos s) (pow-pos s) ∙ add-zero _)
 
 -- ---- one stage, and all five
 
@@ -62,7 +69,8 @@ abbrev pub stage : ℕ → ℕ → ℕ → ℕ
 stage s m x = bitAnd (bitOr x (x * 2 ^ s)) m
 
 -- as the code does at 64 bits
-pub stage-code : (j s m x : ℕ) → x < 2 ^ j → j + s ≤ 64 → bitAnd (bitOr x ((x * 2 ^ s) % 2 ^ 64)) m ≡ stage s m x
+pub stage-code : (j s m x : ℕ) → x < 2 ^ j → j + s ≤ 64
+    → bitAnd (bitOr x ((x * 2 ^ s) % 2 ^ 64)) m ≡ stage s m x
 stage-code j s m x h k = ap (λ y. bitAnd (bitOr x y) m) (shl-whole x j s 64 h k)
 
 stage-or : (s m a b : ℕ) → stage s m (bitOr a b) ≡ bitOr (stage s m a) (stage s m b)
@@ -72,7 +80,9 @@ stage-or s m a b =
     ∙ and-or (bitOr a (a * 2 ^ s)) (bitOr b (b * 2 ^ s)) m
 
 unfoldable pub stages : ℕ → ℕ
-stages x = stage 1 0x5555555555 (stage 2 0x3333333333 (stage 4 0xf0f0f0f0f (stage 8 0xf00ff00ff (stage 16 0xf0000ffff x))))
+stages x =
+    stage 1 0x5555555555
+    (stage 2 0x3333333333 (stage 4 0xf0f0f0f0f (stage 8 0xf00ff00ff (stage 16 0xf0000ffff x))))
 
 stages-or : (a b : ℕ) → stages (bitOr a b) ≡ bitOr (stages a) (stages b)
 unfolding stages
@@ -88,7 +98,8 @@ at-below : (f : ℕ → Bool) (n k : ℕ) → below f n ≡ true → k < n → f
 at-below f zero k t h = absurd (omega arith)
 at-below f (suc n) k t h =
     let parts = and-parts (f n) (below f n) t in
-    ⊎-elim (λ e. subst (λ x. f x ≡ true) (sym e) (parts .0)) (λ ne. at-below f n k (parts .1) (omega arith)) (cases-eq k n)
+    ⊎-elim (λ e. subst (λ x. f x ≡ true) (sym e) (parts .0)) (λ ne. at-below f n k (parts .1) (omega arith))
+    (cases-eq k n)
 
 abbrev lands : ℕ → Bool
 lands n = eqb (stages (1 * 2 ^ n)) (1 * 2 ^ (2 * n))
@@ -99,7 +110,9 @@ one-lands n h = eqb-true _ _ (at-below lands 20 n refl h)
 
 digit-lands : (n x : ℕ) → n < 20 → stages (x % 2 * 2 ^ n) ≡ x % 2 * 2 ^ (2 * n)
 unfolding stages
-digit-lands n x h = at-digit (λ d. stages (d * 2 ^ n) ≡ d * 2 ^ (2 * n)) (ap stages (zero-mul (2 ^ n)) ∙ sym (zero-mul (2 ^ (2 * n))), one-lands n h) x
+digit-lands n x h =
+    let none : stages (0 * 2 ^ n) ≡ 0 * 2 ^ (2 * n) = ap stages (zero-mul (2 ^ n)) ∙ sym (zero-mul (2 ^ (2 * n))) in
+    at-digit (λ d. stages (d * 2 ^ n) ≡ d * 2 ^ (2 * n)) (none, one-lands n h) x
 
 -- ---- the word as the sum of its digits, the highest first
 
@@ -147,7 +160,10 @@ after j s m x y e h k = stage-code j s m x h k ∙ ap (stage s m) e
 masked : (s m x k : ℕ) → m < 2 ^ k → stage64 s m x < 2 ^ k
 masked s m x k h = omega (arith, and-le-r (bitOr x ((x * 2 ^ s) % 2 ^ 64)) m)
 
-pub spread-code : (s : ℕ) → stage64 1 0x5555555555 (stage64 2 0x3333333333 (stage64 4 0xf0f0f0f0f (stage64 8 0xf00ff00ff (stage64 16 0xf0000ffff (bitAnd s 0xfffff))))) ≡ spread-word 20 s
+pub spread-code : (s : ℕ)
+    → stage64 1 0x5555555555 (stage64 2 0x3333333333 (stage64 4 0xf0f0f0f0f
+    (stage64 8 0xf00ff00ff (stage64 16 0xf0000ffff (bitAnd s 0xfffff)))))
+    ≡ spread-word 20 s
 unfolding stages
 spread-code s =
     let x0 = bitAnd s 0xfffff in

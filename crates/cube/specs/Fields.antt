@@ -1,6 +1,6 @@
 -- The slots that one word means, two bits to a slot, the bits of x1 lowest.
 use mathlib.Core.List.{List, [], _∷_}
-use Prim.Native.Nat.{ℕ, zero, suc, _+_, _-_, _*_, _/_, _%_}
+use Prim.Native.Nat.{ℕ, zero, suc, _+_, _-_, _*_, _/_, _%_, _<_}
 use Rattle.cube.specs.declared.slot.Slot.{Slot}
 use Rattle.cube.specs.declared.slot.Slot.the-variants.{No, Yes, Blank}
 
@@ -14,6 +14,11 @@ field-slot (suc (suc (suc more))) = Blank
 unfoldable pub word-slots : ℕ → ℕ → List Slot
 word-slots zero w = []
 word-slots (suc n) w = field-slot (w % 4) ∷ word-slots n (w / 4)
+
+-- none of the n lowest fields is 00
+unfoldable pub Proper-word : ℕ → ℕ → Type 0
+Proper-word zero w = Unit {0}
+Proper-word (suc n) w = (0 < w % 4) × Proper-word n (w / 4)
 
 -- 11 in place of 00
 abbrev pub filled-field : ℕ → ℕ

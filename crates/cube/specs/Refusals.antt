@@ -3,7 +3,27 @@ use Prim.Native.Nat.{ℕ}
 use Rattle.std.specs.declared.result.Result.{Result}
 use Rattle.std.specs.declared.result.Result.the-variants.{Ok, Err}
 use Rattle.cube.specs.declared.refusal.Refusal.{Refusal}
-use Rattle.cube.specs.declared.refusal.Refusal.the-variants.{NoSuchRegister, NoSuchVariable, ShapeBeyondRange, TableTooShort, OutputTooShort, ByteNotAllowed, SixthDigit, MinusWithoutDigit, TextTooLong, NotTheVariables, CubesBeyondRange, LiteralsBeyondRange, LiteralBeyondRange, LiteralNotRising, NumberTooMany, EndsTooEarly, NoSuchCommand, WrongNumberCount, NoSuchFile}
+use Rattle.cube.specs.declared.refusal.Refusal.the-variants.{
+  NoSuchRegister,
+  NoSuchVariable,
+  ShapeBeyondRange,
+  TableTooShort,
+  OutputTooShort,
+  ByteNotAllowed,
+  SixthDigit,
+  MinusWithoutDigit,
+  TextTooLong,
+  NotTheVariables,
+  CubesBeyondRange,
+  LiteralsBeyondRange,
+  LiteralBeyondRange,
+  LiteralNotRising,
+  NumberTooMany,
+  EndsTooEarly,
+  NoSuchCommand,
+  WrongNumberCount,
+  NoSuchFile,
+}
 
 -- what is returned in place of a result; the offset is 0 where none is named
 pub record Fault : Type 0 where

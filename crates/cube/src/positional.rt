@@ -1,7 +1,9 @@
 // A cube as one word, two bits to a slot: 10 is No, 01 is Yes, 11 is Blank, and 00 is read as Blank.
 ghost use mathlib.Core.Path.{_≡_};
 ghost use Prim.Native.Nat.{_<_};
-ghost use Rattle.cube.specs.Fields.{field-slot, word-slots, filled-word, spread-word, state-pattern};
+ghost use Rattle.cube.specs.Fields.{field-slot, word-slots, filled-word, spread-word, state-pattern, Proper-word};
+ghost use Rattle.cube.specs.Slots.{blank-cube, with-slot, cube-meet};
+ghost use Rattle.std.specs.Options.{mapped, Cases};
 use crate::notation::CubeNotation;
 use crate::slot::Slot;
 use crate::variable::VariableNumber;
@@ -15,6 +17,21 @@ const UPPER: u64 = 0xaa_aaaa_aaaa;
 #[derive(Clone, Copy)]
 pub struct PositionalCube {
     word: u64,
+}
+
+impl PositionalCube {
+    /// The cube of any word; the bits beyond the twentieth field are not looked at.
+    pub fn from_word(word: u64) -> PositionalCube
+        ensures { λ r. ⌜ r .word ≡ word ⌝ }
+    {
+        PositionalCube { word }
+    }
+
+    pub fn word(self) -> u64
+        ensures { λ r. ⌜ r ≡ self .word ⌝ }
+    {
+        self.word
+    }
 }
 
 // The twenty fields, with 11 where one is 00.
@@ -55,7 +72,7 @@ fn field_slot(field: u64) -> Slot
 }
 
 fn slot_field(value: Slot) -> u64
-    ensures field { λ r. ⌜ r < 4 ⌝ }
+    ensures field { λ r. ⌜ (0 < r) × (r < 4) ⌝ }
     ensures means { λ r. ⌜ field-slot r ≡ value ⌝ }
 {
     match value {
@@ -65,10 +82,14 @@ fn slot_field(value: Slot) -> u64
     }
 }
 
+// `proper`: of cubes without a field 00 no function makes one with it.
 pub impl CubeNotation for PositionalCube as PositionalNotation {
     ghost slots = { λ c. word-slots 20 (c .word) };
 
-    fn blank() -> PositionalCube {
+    fn blank() -> PositionalCube
+        ensures means { λ r. ⌜ word-slots 20 (r .word) ≡ blank-cube ⌝ }
+        ensures proper { λ r. ⌜ Proper-word 20 (r .word) ⌝ }
+    {
         PositionalCube { word: ALL }
     }
 
@@ -77,7 +98,11 @@ pub impl CubeNotation for PositionalCube as PositionalNotation {
         field_slot((self.word >> k) & 3)
     }
 
-    fn set(self, i: VariableNumber, value: Slot) -> PositionalCube {
+    fn set(self, i: VariableNumber, value: Slot) -> PositionalCube
+        ensures means { λ r. ⌜ word-slots 20 (r .word)
+            ≡ with-slot (word-slots 20 (self .word)) (i .number) value ⌝ }
+        ensures proper { λ r. ⌜ (Proper-word 20 (self .word) → Proper-word 20 (r .word)) ⌝ }
+    {
         let k = 2 * (i.number() - 1);
         let field = slot_field(value);
         PositionalCube {
@@ -85,7 +110,11 @@ pub impl CubeNotation for PositionalCube as PositionalNotation {
         }
     }
 
-    fn meet(self, other: PositionalCube) -> Option<PositionalCube> {
+    fn meet(self, other: PositionalCube) -> Option<PositionalCube>
+        ensures means { λ r. ⌜ mapped (λ c. word-slots 20 (c .word)) r
+            ≡ cube-meet (word-slots 20 (self .word)) (word-slots 20 (other .word)) ⌝ }
+        ensures proper { λ r. ⌜ Cases r (Unit {0}) (λ m. Proper-word 20 (m .word)) ⌝ }
+    {
         let word = filled(self.word) & filled(other.word);
         if (word | (word >> 1)) & LOWER == LOWER {
             Some(PositionalCube { word })
@@ -101,8 +130,8 @@ pub impl CubeNotation for PositionalCube as PositionalNotation {
     }
 
     fn says(self, state: u32) -> bool {
-        let wide = filled(self.word);
-        let narrow = pattern(state);
-        wide & narrow == narrow
+        let open = filled(self.word);
+        let asked = pattern(state);
+        open & asked == asked
     }
 }

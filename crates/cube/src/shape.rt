@@ -21,7 +21,8 @@ pub struct Shape {
 impl Shape {
     /// The shape of 1 to 20 variables and 1 to 256 places; refused where one is beyond its range.
     pub fn new(variables: i32, places: i32) -> Result<Shape, Refusal>
-        ensures { λ r. ⌜ Cases r (λ s. (pos (s .variables) ≡ variables) × (pos (s .places) ≡ places)) (λ e. (fault-of e ≡ fault 3 0) × (Outside 1 20 variables ⊎ Outside 1 256 places)) ⌝ }
+        ensures { λ r. ⌜ Cases r (λ s. (pos (s .variables) ≡ variables) × (pos (s .places) ≡ places))
+            (λ e. (fault-of e ≡ fault 3 0) × (Outside 1 20 variables ⊎ Outside 1 256 places)) ⌝ }
     {
         if variables < 1 || variables > 20 || places < 1 || places > 256 {
             return Err(Refusal::ShapeBeyondRange);

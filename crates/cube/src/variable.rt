@@ -17,7 +17,8 @@ pub struct VariableNumber {
 impl VariableNumber {
     /// The variable of this number; refused where there is none.
     pub fn new(number: i32) -> Result<VariableNumber, Refusal>
-        ensures { λ r. ⌜ Cases r (λ v. pos (v .number) ≡ number) (λ e. (fault-of e ≡ fault 2 0) × Outside 1 20 number) ⌝ }
+        ensures { λ r. ⌜ Cases r (λ v. pos (v .number) ≡ number)
+            (λ e. (fault-of e ≡ fault 2 0) × Outside 1 20 number) ⌝ }
     {
         if number < 1 || number > 20 {
             return Err(Refusal::NoSuchVariable);

@@ -14,5 +14,6 @@ returns c =
     let low = c .args .self .min in
     let high = c .args .self .max in
     let within : k < 20 = omega arith in
-    c .slot-of .ensures ∙ ap₂ slot-of (and-mask (low / 2 ^ k) 1) (and-mask (high / 2 ^ k) 1) ∙ slot-pair 20 k low high within
+    c .slot-of .ensures ∙ ap₂ slot-of (and-mask (low / 2 ^ k) 1) (and-mask (high / 2 ^ k) 1)
+    ∙ slot-pair 20 k low high within
     ∙ ap (λ i. getD (pair-slots 20 low high) (i - 1) Blank) (c .number-k .ensures .value)
