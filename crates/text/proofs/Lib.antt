@@ -1,0 +1,3 @@
+pub mod Streams
+pub mod Overlays
+pub mod Written
