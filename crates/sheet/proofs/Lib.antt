@@ -1,0 +1,10 @@
+pub mod Runs
+pub mod Worded
+pub mod Splits
+pub mod Accepts
+pub mod Values
+pub mod Sheets
+pub mod Lines
+pub mod Trips
+pub mod Wrotes
+pub mod Lengths

@@ -1,0 +1,3 @@
+// Sheets of cubes: reading and writing.
+pub mod reading;
+pub mod writing;
