@@ -1,0 +1,9 @@
+pub mod Overs
+pub mod Sheets
+pub mod Makes
+pub mod Holds
+pub mod Sound
+pub mod Lawful
+pub mod Example
+pub mod Steps
+pub mod Ends
