@@ -1,0 +1,5 @@
+pub mod Asking
+pub mod Putting
+pub mod Turning
+pub mod Lives
+pub mod Midway

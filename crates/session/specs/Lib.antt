@@ -1,0 +1,4 @@
+pub mod Run
+pub mod Seen
+pub mod Midway
+pub mod Ran
