@@ -11,7 +11,7 @@ use Rattle.std.specs.declared.option.Option.{Option}
 use Rattle.std.specs.declared.option.Option.the-variants.{Some, None}
 use Rattle.std.specs.declared.result.Result.{Result}
 use Rattle.std.specs.declared.result.Result.the-variants.{Ok, Err}
-use Rattle.std.proofs.shelf.Lists.{at-drop-more, at-drop-all, take-rest, drop-more}
+use Rattle.std.proofs.shelf.Lists.{at-drop-more, at-drop-all, take-rest, drop-more, length-take}
 use Rattle.std.proofs.shelf.Tests.{cases-lt, cond-true, cond-false}
 use Rattle.std.proofs.shelf.Ways.{tells}
 use Rattle.cube.specs.Refusals.{Fault, fault}
@@ -72,3 +72,14 @@ with-some b zs a e = ap some-of (sym e)
 pub count-asked : (b : ℕ) (r : Result (List ℤ) Fault) (n : Numbers) (a : Result Asked Fault) → Ok n ≡ counted-in numbers.None r → ((zs : List ℤ) → counted numbers.None zs ≡ n → a ≡ asked-by b zs) → with-numbers b r ≡ some-of a
 count-asked b (Ok zs) n a e f = let same : counted numbers.None zs ≡ n = cc in with-some b zs a (f zs same)
 count-asked b (Err g) n a e f = let no : _≡_ {A = ℕ} 0 1 = cc in absurd (omega arith)
+
+-- what stands after the letter begins one place later
+pub rest-start : (text : List ℕ) (at : ℕ) → at < length text
+    → length text - length (take (length (take (length text - at) (drop at text)) - 1) (drop 1 (take (length text - at) (drop at text)))) ≡ at + 1
+rest-start text at h =
+    let part = take (length text - at) (drop at text) in
+    let a = length-take (length part - 1) (drop 1 part) in
+    let b = length-drop 1 part in
+    let c = ap length (take-rest text at) in
+    let d = length-drop at text in
+    omega arith

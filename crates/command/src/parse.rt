@@ -112,12 +112,12 @@ pub fn parse(line: CommandLine, first: bool) -> Result<Option<Command>, Refusal>
     let at = past_separators(text, line.start);
     match &text[at..] {
         [] => Ok(None),
-        [letter, ..] => {
+        [letter, rest @ ..] => {
             let letter = char::from(*letter);
             if !admits(letter, first) {
                 return Err(Refusal::NoSuchCommand { at });
             }
-            let numbers = numbers_from(text, at + 1)?;
+            let numbers = numbers_from(text, text.len() - rest.len())?;
             Ok(Some(command_of(letter, numbers)?))
         }
     }
