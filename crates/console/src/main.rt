@@ -13,7 +13,9 @@ use std::io::Read;
 use std::io::Write;
 
 const REGISTERS: u8 = 32;
+
 const REGISTER_CUBES: usize = 2048;
+
 const WORKING_CUBES: usize = 4096;
 // Enough for the longest text of a line: 12 bytes, and 150 for each of 64 cubes.
 const PAGE_BYTES: usize = 9612;

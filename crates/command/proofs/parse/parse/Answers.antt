@@ -29,7 +29,7 @@ returns-in-Break-numbers c =
     let s = c .past-separators-at in
     let h : s .result < length (c .args .line .text .now) = omega (arith, ltb-false, length-rest (c .args .line .text .now) (s .result)) in
     let right = s .ensures .same (c .args .first) ∙ right-letter _ _ _ _ (s .ensures .stops) h (c .from-letter .ensures) (sym (c .if-not-admits .ensures tt))
-        ∙ ap (λ z. with-numbers (c .from-letter .result) (numbers-in (tokens-from (c .args .line .text .now) z))) (sym (rest-start (c .args .line .text .now) (s .result) h)) in
+    ∙ ap (λ z. with-numbers (c .from-letter .result) (numbers-in (tokens-from (c .args .line .text .now) z))) (sym (rest-start (c .args .line .text .now) (s .result) h)) in
     let p = err-from-errBy (c .from-residual .result) (c .from-residual .ensures .1) in
     ap parsed (p .1) ∙ ap (λ f. Err (fault-of f)) (p .2) ∙ sym (right ∙ faulty (c .from-letter .result) _ _ (c .in-Break-numbers .ensures tt))
 
@@ -39,7 +39,7 @@ returns-in-Break-command-of c =
     let h : s .result < length (c .args .line .text .now) = omega (arith, ltb-false, length-rest (c .args .line .text .now) (s .result)) in
     let a : admitted (c .args .first) (c .from-letter .result) ≡ true = sym (c .if-not-admits .ensures tt) in
     let right = s .ensures .same (c .args .first) ∙ right-letter _ _ _ _ (s .ensures .stops) h (c .from-letter .ensures) a
-        ∙ ap (λ z. with-numbers (c .from-letter .result) (numbers-in (tokens-from (c .args .line .text .now) z))) (sym (rest-start (c .args .line .text .now) (s .result) h)) in
+    ∙ ap (λ z. with-numbers (c .from-letter .result) (numbers-in (tokens-from (c .args .line .text .now) z))) (sym (rest-start (c .args .line .text .now) (s .result) h)) in
     let p = err-from-errBy (c .from-residual-in-Break-command-of .result) (c .from-residual-in-Break-command-of .ensures .1) in
     ap parsed (p .1) ∙ ap (λ f. Err (fault-of f)) (p .2) ∙ sym (right ∙ count-asked (c .from-letter .result) _ _ _ (c .in-Continue-numbers .ensures tt) (λ zs e. c .in-Break-command-of .ensures tt (c .args .first) zs a e))
 
@@ -49,5 +49,5 @@ returns-in-Continue-command-of c =
     let h : s .result < length (c .args .line .text .now) = omega (arith, ltb-false, length-rest (c .args .line .text .now) (s .result)) in
     let a : admitted (c .args .first) (c .from-letter .result) ≡ true = sym (c .if-not-admits .ensures tt) in
     let right = s .ensures .same (c .args .first) ∙ right-letter _ _ _ _ (s .ensures .stops) h (c .from-letter .ensures) a
-        ∙ ap (λ z. with-numbers (c .from-letter .result) (numbers-in (tokens-from (c .args .line .text .now) z))) (sym (rest-start (c .args .line .text .now) (s .result) h)) in
+    ∙ ap (λ z. with-numbers (c .from-letter .result) (numbers-in (tokens-from (c .args .line .text .now) z))) (sym (rest-start (c .args .line .text .now) (s .result) h)) in
     sym (right ∙ count-asked (c .from-letter .result) _ _ _ (c .in-Continue-numbers .ensures tt) (λ zs e. c .in-Continue-command-of .ensures tt (c .args .first) zs a e))

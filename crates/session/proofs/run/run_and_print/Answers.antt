@@ -1,12 +1,13 @@
 use mathlib.Core.Path.{refl}
 use mathlib.Core.List.{[]}
+use native.Mathlib.Omega.{arith}
 use lib.ListN.{length}
 use Rattle.session.specs.Seen.{setting}
 use Rattle.session.proofs.Midway.{next-line, put-within}
 use Rattle.session.proofs.run.run_and_print.Needs as need
 
 pub append-requires : need.append-requires
-append-requires g c κs = put-within (c .in-Ok .ensures tt [] .put)
+append-requires g c κs = omega (arith, put-within (c .in-Ok .ensures tt [] .put))
 
 pub returns-in-Continue-append : need.returns-in-Continue-append
 returns-in-Continue-append g c cells ls rest m =
