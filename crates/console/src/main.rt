@@ -3,6 +3,7 @@ use command::files::Files;
 use cube::notation::CubeNotation;
 use cube::positional::PositionalNotation;
 use session::line::MOST_SHEET_BYTES;
+use session::page::PAGE_BYTES;
 use session::run::MOST_COMMAND_BYTES;
 use session::run::run_text;
 use std::alloc::AllocError;
@@ -17,8 +18,6 @@ const REGISTERS: u8 = 32;
 const REGISTER_CUBES: usize = 2048;
 
 const WORKING_CUBES: usize = 4096;
-// Enough for the longest text of a line: 12 bytes, and 150 for each of 64 cubes.
-const PAGE_BYTES: usize = 9612;
 
 // What a source holds, up to one part more than `most` bytes; none where it cannot be read.
 fn read_some<R: Read>(

@@ -3,3 +3,4 @@ pub mod Putting
 pub mod Turning
 pub mod Lives
 pub mod Midway
+pub mod Pages
