@@ -7,14 +7,25 @@ use native.Mathlib.Omega.{arith}
 use lib.ListN.{length, getD, set, take, drop, replicate}
 use lib.ListN.{length-map}
 use borrow.Rule.Slice.PartMut.{putMid, postOf}
-use Rattle.std.proofs.shelf.Lists.{take-at, drop-at, append-assoc, length-append, take-rest, append-nil, drop-drop, drop-all, length-take-le, length-drop, take-map, drop-map, map-append}
+use Rattle.std.proofs.shelf.Lists.{map-set, take-at, drop-at, append-assoc, length-append, take-rest, append-nil, drop-drop, drop-all, length-take-le, length-drop, take-map, drop-map, map-append}
 use Rattle.life.specs.View.{Register, of-count, written}
+use Rattle.calculator.specs.declared.registers.Registers.{Registers}
+use Rattle.calculator.specs.Records.{registers-of}
 use Rattle.calculator.specs.Kept.{Elsewhere}
 
 pub getD-mapped : {X Y : Type 0} (f : X → Y) (xs : List X) (i : ℕ) (d : X) → f (getD xs i d) ≡ getD (map f xs) i (f d)
 getD-mapped f [] i d = refl
 getD-mapped f (x ∷ xs) zero d = refl
 getD-mapped f (x ∷ xs) (suc i) d = getD-mapped f xs i d
+
+-- the count of the record at i is that of register k, if these are one number
+pub count-at : (r : Registers) (i k : ℕ) → i ≡ k → getD (r .records) i (record { count = 0 }) .count ≡ getD (registers-of r) k (of-count 0) .count
+count-at r i k e =
+    ap (λ x. x .count) (getD-mapped (λ x. of-count (x .count)) (r .records) i (record { count = 0 }) ∙ ap (λ j. getD (registers-of r) j (of-count 0)) e)
+
+-- the records after the one at i was set are those after register k was, if these are one number
+pub hold-at : (r : Registers) (i k m n : ℕ) → i ≡ k → m ≡ n → map (λ x. of-count (x .count)) (set (r .records) i (record { count = m })) ≡ set (registers-of r) k (of-count n)
+hold-at r i k m n e f = map-set (λ x. of-count (x .count)) (r .records) i (record { count = m }) ∙ ap₂ (λ j z. set (registers-of r) j (of-count z)) e f
 
 -- no record of a new calculator counts a cube
 pub none-held : (m k : ℕ) → getD (replicate m (of-count 0)) k (of-count 0) ≡ of-count 0
