@@ -25,12 +25,12 @@ pub operand-part : {X : Type 0} (f : X → Cube) (v : View) (t : List X) (a i q 
     → c ≡ getD (v .registers) a (of-count 0) .count
     → map (blank-above (v .n)) (map f (take ((i * q + c) - i * q) (drop (i * q) t))) ≡ operand v a
 operand-part f v t a i q c ec ei eq en =
-    let part : ℕ → ℕ → List Cube → Cover = λ m at cells. map (blank-above (v .n)) (take m (drop at cells)) in
+    let piece : ℕ → ℕ → List Cube → Cover = λ m at cells. map (blank-above (v .n)) (take m (drop at cells)) in
     let m : (i * q + c) - i * q ≡ c = omega arith in
     ap (λ z. map (blank-above (v .n)) (map f (take z (drop (i * q) t)))) m
     ∙ ap (map (blank-above (v .n))) (sym (take-map f c (drop (i * q) t)) ∙ ap (take c) (sym (drop-map f (i * q) t)))
-    ∙ ap (λ z. part c (z * q) (map f t)) ei ∙ ap (λ z. part c (a * z) (map f t)) eq
-    ∙ ap (part c (a * v .places)) (sym ec) ∙ ap (λ z. part z (a * v .places) (v .cells)) en
+    ∙ ap (λ z. piece c (z * q) (map f t)) ei ∙ ap (λ z. piece c (a * z) (map f t)) eq
+    ∙ ap (piece c (a * v .places)) (sym ec) ∙ ap (λ z. piece z (a * v .places) (v .cells)) en
 
 -- and has at most as many cubes as its record says
 pub part-few : {X : Type 0} (t : List X) (s c : ℕ) → length (take ((s + c) - s) (drop s t)) ≤ c
@@ -38,12 +38,12 @@ part-few t s c = let h = length-take ((s + c) - s) (drop s t) in omega arith
 
 -- the two ends of a write whose table is long enough
 pub write-step : (v : View) (a count : ℕ) (F : Cover) (out out′ : List ℕ) (r : Result ℕ Refusal) → 32 * v .places ≤ length (v .cells)
-    → F ≡ operand v a → count ≤ 256 → Writes (write-sheet (v .n) F) out r out′ → Exact count (write-sheet (v .n) F) out r
+    → count ≤ 256 → Writes (write-sheet (v .n) F) out r out′ → Exact count (write-sheet (v .n) F) out r → F ≡ operand v a
     → Stepped v (event (write a (length out)) 0 (text-outcome r out′)) v
-write-step v a count F out out′ (Ok k) long e few w x =
+write-step v a count F out out′ (Ok k) long few w x e =
     let bytes : take k out′ ≡ write-sheet (v .n) F = ap (take k) (w .3) ∙ take-at (write-sheet (v .n) F) (drop k out) k (sym (w .2)) in
     write-made v a (length out) 0 (take k out′) long (bytes ∙ ap (write-sheet (v .n)) e) (let l = ap length bytes in let h = w .0 in omega arith)
-write-step v a count F out out′ (Err f) long e few w x =
+write-step v a count F out out′ (Err f) long few w x e =
     subst (λ z. Stepped v (event (write a (length out)) 0 (refused z)) v) (sym (w .1))
     (write-without-room v a (length out) 0 long (subst (λ G. length out < length (write-sheet (v .n) G)) e (x few)))
 

@@ -15,7 +15,7 @@ layer-name Command = codes "command"
 layer-name Calculator = codes "calculator"
 
 -- `line L LAYER C at P` and a line end
-abbrev pub report : ℕ → Layer → Fault → List ℕ
+unfoldable pub report : ℕ → Layer → Fault → List ℕ
 report line layer f =
     codes "line " ++ (decimal line ++ (codes " " ++ (layer-name layer ++ (codes " " ++ (decimal (f .number) ++ (codes " at " ++ (decimal (f .offset) ++ 10 ∷ [])))))))
 

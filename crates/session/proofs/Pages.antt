@@ -43,6 +43,7 @@ name-short Command = omega arith
 name-short Calculator = omega arith
 
 pub reports-fit : Reports-fit
+unfolding report
 reports-fit line layer f a b c =
     let x = digits line a in
     let y = digits (f .number) b in

@@ -38,9 +38,9 @@ returns g c =
     let v = view m (map slots t) in
     let a = c .args .a .number in
     let long : 32 * v .places ≤ length (v .cells) = simp length-map (omega arith) in
-    let part = operand-part slots v t a (c .number .result) (c .places-places .result) (c .count-count .result) refl (c .number .ensures .value) (c .places-places .ensures .value) (c .count-count .ensures) in
     let start = c .number .result * c .places-places .result in
     let few : length (take ((start + c .count-count .result) - start) (drop start t)) ≤ 256 =
     let p = part-few t start (c .count-count .result) in let h = m .within a in omega arith in
-    let s = write-step v a _ _ out (c .write-sheet .last .out) (c .write-sheet .result) long part few (c .write-sheet .ensures .result) (c .write-sheet .ensures .exact) in
+    let s = write-step v a _ _ out (c .write-sheet .last .out) (c .write-sheet .result) long few (c .write-sheet .ensures .result) (c .write-sheet .ensures .exact)
+    (operand-part slots v t a (c .number .result) (c .places-places .result) _ refl (c .number .ensures .value) (c .places-places .ensures .value) (omega arith)) in
     record { step = s; kept = write-puts _ out (c .write-sheet .last .out) m (c .write-sheet .result) (c .write-sheet .ensures .result); law = goes-on (c .args .a .below) refl s }
