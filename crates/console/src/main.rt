@@ -1,7 +1,7 @@
 // The console: a command text from standard input, sheets from the working folder, and what is printed to standard output.
 use command::files::Files;
 use cube::notation::CubeNotation;
-use cube::positional::PositionalNotation;
+use positional::PositionalNotation;
 use session::line::MOST_SHEET_BYTES;
 use session::page::PAGE_BYTES;
 use session::run::MOST_COMMAND_BYTES;

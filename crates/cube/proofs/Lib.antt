@@ -1,5 +1,2 @@
 pub mod Digits
-pub mod Pair
-pub mod Quads
-pub mod Word
-pub mod Spread
+pub mod Meets

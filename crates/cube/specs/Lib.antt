@@ -2,5 +2,3 @@ pub mod Refusals
 pub mod Ranges
 pub mod Slots
 pub mod Says
-pub mod MinMax
-pub mod Fields

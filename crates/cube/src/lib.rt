@@ -1,7 +1,5 @@
-// Cubes of twenty slots, two notations for them, and the numbers and refusals that every layer shares.
-pub mod min_max;
+// Cubes of twenty slots, what every notation for them answers, and the numbers and refusals that every layer shares.
 pub mod notation;
-pub mod positional;
 pub mod refusal;
 pub mod shape;
 pub mod slot;

@@ -1,0 +1,3 @@
+pub mod Quads
+pub mod Word
+pub mod Stages
