@@ -1,4 +1,6 @@
-// What a host puts into the register table between two calls.
+// What a host puts into the register table between two calls, and what a read leaves there.
+use crate::calls::read;
+use crate::calls::write;
 use crate::notations::MinMaxCube;
 use crate::notations::MinMaxNotation;
 use crate::notations::PositionalCube;
@@ -7,9 +9,6 @@ use calculator::calculator::Calculator;
 use calculator::register::RegisterNumber;
 use cube::notation::CubeNotation;
 use cube::refusal::Refusal;
-use cube::refusal::RefusalDebug;
-use cube::shape::Shape;
-use std::alloc::Global;
 use std::test::*;
 
 // A word at the place of a register of three variables, and the sheet that is written of it.
@@ -48,63 +47,93 @@ static PAIRS: [(u32, u32, &str); 9] = [
     (0xfff0_0000, 0xffff_ffff, "3\n1\n0\n"),
 ];
 
-// What register 3 holds before each read below.
-const BEFORE: &str = "3\n2\n1 2\n1 -2\n";
-
-// A text that is read into register 3, the first place of the table that changes and how many do, and the sheet of the register after it.
-static READS: [(&str, usize, usize, &str); 10] = [
-    ("3\n1\n1 1\n", 12, 1, "3\n1\n1 1\n"),
-    ("3\n2\n1 1\n0\n", 12, 2, "3\n2\n1 1\n0\n"),
-    ("3\n4\n0\n0\n0\n1 3", 12, 4, "3\n4\n0\n0\n0\n1 3\n"),
-    ("3\n0\n", 0, 0, "3\n0\n"),
-    ("3\n4\n1 1\n1 2\n1 3\n1 -1\nx", 0, 0, BEFORE),
-    ("3\n4\n1 1\n1 2\n1 3\n1 -4\n", 0, 0, BEFORE),
-    ("3\n4\n1 1\n1 2\n1 3\n", 0, 0, BEFORE),
-    ("3\n1\n1 1\n0\n", 0, 0, BEFORE),
-    ("4\n1\n1 1\n", 0, 0, BEFORE),
-    ("", 0, 0, BEFORE),
+// Two texts that are read into register 3, the first place of the table that changed and how many did, and the sheet of the register then.
+static READS: [(&str, &str, usize, usize, &str); 12] = [
+    ("3\n0", "3\n1\n1 1\n", 12, 1, "3\n1\n1 1\n"),
+    ("3\n0", "3\n2\n1 1\n0\n", 12, 2, "3\n2\n1 1\n0\n"),
+    ("3\n0", "3\n4\n0\n0\n0\n1 3", 12, 4, "3\n4\n0\n0\n0\n1 3\n"),
+    ("3\n0", "3\n0\n", 0, 0, "3\n0\n"),
+    ("3\n0", "3\n4\n1 1\n1 2\n1 3\n1 -1\nx", 0, 0, "3\n0\n"),
+    ("3\n2\n1 2\n1 -2\n", "3\n1\n1 1\n", 12, 2, "3\n1\n1 1\n"),
+    (
+        "3\n2\n1 2\n1 -2\n",
+        "3\n4\n1 1\n1 2\n1 3\n1 -1\nx",
+        12,
+        2,
+        "3\n2\n1 2\n1 -2\n",
+    ),
+    (
+        "3\n2\n1 2\n1 -2\n",
+        "3\n4\n1 1\n1 2\n1 3\n1 -4\n",
+        12,
+        2,
+        "3\n2\n1 2\n1 -2\n",
+    ),
+    (
+        "3\n2\n1 2\n1 -2\n",
+        "3\n4\n1 1\n1 2\n1 3\n",
+        12,
+        2,
+        "3\n2\n1 2\n1 -2\n",
+    ),
+    (
+        "3\n2\n1 2\n1 -2\n",
+        "3\n1\n1 1\n0\n",
+        12,
+        2,
+        "3\n2\n1 2\n1 -2\n",
+    ),
+    (
+        "3\n2\n1 2\n1 -2\n",
+        "4\n1\n1 1\n",
+        12,
+        2,
+        "3\n2\n1 2\n1 -2\n",
+    ),
+    ("3\n2\n1 2\n1 -2\n", "", 12, 2, "3\n2\n1 2\n1 -2\n"),
 ];
 
-// Reads a sheet of one cube into register 3, puts another cube at its place, and writes the register.
-fn show<C: CubeNotation>(
-    cube: C,
-    table: &mut [C],
-    working: &mut [C],
-    out: &mut [u8],
-) -> Result<usize, Refusal> {
-    let shape = Shape::new(3, 4)?;
-    let k = RegisterNumber::new(3)?;
-    let mut calculator = Calculator::new(shape);
-    calculator.read(k, b"3\n1\n0\n", table, working)?;
-    if let Some(place) = table.get_mut(12) {
-        *place = cube;
+// Register 3 is written as this sheet.
+fn check_written<C: CubeNotation>(
+    calculator: &mut Calculator,
+    table: &[C],
+    written: &str,
+) -> Result<(), Fail> {
+    let mut out = [0; 64];
+    match write(calculator, 3, table, &mut out) {
+        Ok(length) => check_eq(&out[..length.min(64)], written.as_bytes()),
+        Err(_) => Err(Fail::new("the write was refused")),
     }
-    calculator.write(k, table, out)
-}
-
-fn shown<C: CubeNotation + Clone>(heap: Global, cube: C) -> Result<Vec<u8>, Fail> {
-    let mut table = vec![in heap; C::blank(); 128]?;
-    let mut working = vec![in heap; C::blank(); 256]?;
-    let mut out = vec![in heap; 0u8; 64]?;
-    let length = show(cube, &mut table, &mut working, &mut out)?;
-    out.truncate(length);
-    Ok(out)
 }
 
 #[test]
-fn any_word_is_a_cube(rt: LibcRuntime) -> Result<(), Fail> {
+fn any_word_is_a_cube() -> Result<(), Fail> {
+    let mut table = [PositionalNotation::blank(); 128];
+    let mut working = [PositionalNotation::blank(); 256];
+    let Ok(mut calculator) = read::<PositionalNotation>(3, 3, b"3\n1\n0", &mut table, &mut working)
+    else {
+        return Err(Fail::new("the read was refused"));
+    };
     for &(word, written) in &WORDS {
-        let seen = shown::<PositionalNotation>(rt.alloc(), PositionalCube::from_word(word))?;
-        check_eq(&seen[..], written.as_bytes()).note(format_args!("{word:#x}"))?;
+        let mut table = [PositionalNotation::blank(); 128];
+        table[12] = PositionalCube::from_word(word);
+        check_written::<PositionalNotation>(&mut calculator, &table, written).note(written)?;
     }
     Ok(())
 }
 
 #[test]
-fn any_pair_is_a_cube(rt: LibcRuntime) -> Result<(), Fail> {
+fn any_pair_is_a_cube() -> Result<(), Fail> {
+    let mut table = [MinMaxNotation::blank(); 128];
+    let mut working = [MinMaxNotation::blank(); 256];
+    let Ok(mut calculator) = read::<MinMaxNotation>(3, 3, b"3\n1\n0", &mut table, &mut working)
+    else {
+        return Err(Fail::new("the read was refused"));
+    };
     for &(min, max, written) in &PAIRS {
-        let seen = shown::<MinMaxNotation>(rt.alloc(), MinMaxCube::from_bounds(min, max))?;
-        check_eq(&seen[..], written.as_bytes()).note(format_args!("{min:#x} {max:#x}"))?;
+        let mut table = [MinMaxNotation::blank(); 128];
+        table[12] = MinMaxCube::from_bounds(min, max);
+        check_written::<MinMaxNotation>(&mut calculator, &table, written).note(written)?;
     }
     Ok(())
 }
@@ -127,44 +156,29 @@ fn unmarked(table: &[PositionalCube]) -> (usize, usize) {
     (first, count)
 }
 
-// The places that change where a text is read into register 3.
-fn changed(text: &[u8]) -> Result<(usize, usize), Refusal> {
-    let shape = Shape::new(3, 4)?;
+// Reads one text and then another into register 3.
+fn read_both(
+    before: &str,
+    text: &str,
+    table: &mut [PositionalCube],
+    working: &mut [PositionalCube],
+) -> Result<Calculator, Refusal> {
     let k = RegisterNumber::new(3)?;
-    let mut table = [PositionalCube::from_word(MARK); 128];
-    let mut working = [PositionalNotation::blank(); 256];
-    let mut calculator = Calculator::new(shape);
-    let _ = calculator.read::<PositionalNotation>(k, text, &mut table, &mut working);
-    Ok(unmarked(&table))
-}
-
-// Reads a text into register 3 after another, and writes the register.
-fn read_again(text: &[u8], out: &mut [u8]) -> Result<usize, Refusal> {
-    let shape = Shape::new(3, 4)?;
-    let k = RegisterNumber::new(3)?;
-    let mut table = [PositionalNotation::blank(); 128];
-    let mut working = [PositionalNotation::blank(); 256];
-    let mut calculator = Calculator::new(shape);
-    calculator.read::<PositionalNotation>(k, BEFORE.as_bytes(), &mut table, &mut working)?;
-    let _ = calculator.read::<PositionalNotation>(k, text, &mut table, &mut working);
-    calculator.write::<PositionalNotation>(k, &table, out)
+    let mut calculator = read::<PositionalNotation>(3, 3, before.as_bytes(), table, working)?;
+    let _ = calculator.read::<PositionalNotation>(k, text.as_bytes(), table, working);
+    Ok(calculator)
 }
 
 #[test]
 fn reads_change_their_own_places_alone() -> Result<(), Fail> {
-    for &(text, first, count, _) in &READS {
-        check_eq(changed(text.as_bytes())?, (first, count)).note(text)?;
-    }
-    Ok(())
-}
-
-#[test]
-fn refused_reads_leave_the_register() -> Result<(), Fail> {
-    for &(text, _, _, after) in &READS {
-        let mut out = [0; 64];
-        let length = read_again(text.as_bytes(), &mut out)?;
-        check(length <= 64)?;
-        check_eq(&out[0..length], after.as_bytes()).note(text)?;
+    for &(before, text, first, count, after) in &READS {
+        let mut table = [PositionalCube::from_word(MARK); 128];
+        let mut working = [PositionalCube::from_word(MARK); 256];
+        let Ok(mut calculator) = read_both(before, text, &mut table, &mut working) else {
+            return Err(Fail::new("the read was refused"));
+        };
+        check_eq(unmarked(&table), (first, count)).note(text)?;
+        check_written::<PositionalNotation>(&mut calculator, &table, after).note(text)?;
     }
     Ok(())
 }

@@ -1,5 +1,7 @@
 // Tables of cases, walked by tests: what a host and a user of the console see, row by row.
 #[cfg(test)]
+mod calls;
+#[cfg(test)]
 mod commands;
 #[cfg(test)]
 mod host_cubes;
@@ -11,5 +13,3 @@ mod numbers;
 mod round_trips;
 #[cfg(test)]
 mod sheets;
-#[cfg(test)]
-mod texts;

@@ -1,14 +1,10 @@
 // Sheets that are read and written again.
+use crate::calls::read;
+use crate::calls::write;
 use crate::notations::MinMaxNotation;
 use crate::notations::PositionalNotation;
-use crate::texts::padded;
-use calculator::calculator::Calculator;
-use calculator::register::RegisterNumber;
 use cube::notation::CubeNotation;
 use cube::refusal::Refusal;
-use cube::shape::Shape;
-use std::alloc::AllocError;
-use std::alloc::Global;
 use std::test::*;
 
 // Variables, a register, a sheet that is read into it, and the sheet that is written of it.
@@ -38,85 +34,79 @@ static SHEETS: [(i32, i32, &str, &str); 10] = [
 // What the bytes hold before a write.
 const OLD: u8 = 7;
 
-// Reads a sheet into register k and writes the register, with four places each; returns the length of what is written.
-fn copy_sheet<C: CubeNotation>(
+const MOST: usize = 160;
+
+fn copy<C: CubeNotation>(
     n: i32,
     k: i32,
-    sheet: &[u8],
+    sheet: &str,
     table: &mut [C],
     working: &mut [C],
     out: &mut [u8],
 ) -> Result<usize, Refusal> {
-    let shape = Shape::new(n, 4)?;
-    let k = RegisterNumber::new(k)?;
-    let mut calculator = Calculator::new(shape);
-    calculator.read(k, sheet, table, working)?;
-    calculator.write(k, table, out)
+    let mut calculator = read(n, k, sheet.as_bytes(), table, working)?;
+    write(&mut calculator, k, table, out)
 }
 
-// What is returned, the length or the refusal's number, and the bytes, of which there are `room`.
-fn copied<C: CubeNotation + Clone>(
-    heap: Global,
+// The length of what is written and 0, or 0 and the refusal's number.
+fn copied<C: CubeNotation>(
     n: i32,
     k: i32,
-    sheet: &[u8],
-    room: usize,
-) -> Result<(usize, u8, Vec<u8>), AllocError> {
-    let mut table = vec![in heap; C::blank(); 128]?;
-    let mut working = vec![in heap; C::blank(); 256]?;
-    let mut out = vec![in heap; OLD; room]?;
-    match copy_sheet(n, k, sheet, &mut table, &mut working, &mut out) {
-        Ok(length) => Ok((length, 0, out)),
-        Err(refusal) => Ok((0, refusal.number(), out)),
+    sheet: &str,
+    table: &mut [C],
+    working: &mut [C],
+    out: &mut [u8],
+) -> (usize, u8) {
+    match copy(n, k, sheet, table, working, out) {
+        Ok(length) => (length, 0),
+        Err(refusal) => (0, refusal.number()),
     }
 }
 
-// Room for the sheet and for some bytes more, which keep what they held.
-fn check_room<C: CubeNotation + Clone>(
-    heap: Global,
+// With `room` bytes: the sheet in front of what they held, or 8 where they are too few, and then they keep it.
+fn check_room<C: CubeNotation>(
     n: i32,
     k: i32,
     sheet: &str,
     written: &str,
-    more: usize,
+    room: usize,
+    table: &mut [C],
+    working: &mut [C],
 ) -> Result<(), Fail> {
-    let length = written.len();
-    let room = length.saturating_add(more);
-    let seen = copied::<C>(heap, n, k, sheet.as_bytes(), room)?;
-    let want = padded(heap, written.as_bytes(), OLD, room)?;
-    check_eq(seen, (length, 0, want)).note(sheet)
+    let mut out = [OLD; MOST];
+    let mut want = [OLD; MOST];
+    let mut answer = (0, 8);
+    check(room <= MOST)?;
+    if written.len() <= room {
+        answer = (written.len(), 0);
+        want[0..written.len()].copy_from_slice(written.as_bytes());
+    }
+    let seen = copied(n, k, sheet, table, working, &mut out[0..room]);
+    check_eq(seen, answer).note(sheet)?;
+    check_eq(out, want).note(sheet)
 }
 
-// One byte too few: refused, and the bytes keep what they held.
-fn check_too_few<C: CubeNotation + Clone>(
-    heap: Global,
-    n: i32,
-    k: i32,
-    sheet: &str,
-    written: &str,
-) -> Result<(), Fail> {
-    let room = written.len().saturating_sub(1);
-    let seen = copied::<C>(heap, n, k, sheet.as_bytes(), room)?;
-    let want = padded(heap, b"", OLD, room)?;
-    check_eq(seen, (0, 8, want)).note(sheet)
-}
-
-fn check_sheets<C: CubeNotation + Clone>(heap: Global) -> Result<(), Fail> {
+// One byte too few, just enough, and more.
+fn check_sheets<C: CubeNotation>(table: &mut [C], working: &mut [C]) -> Result<(), Fail> {
     for &(n, k, sheet, written) in &SHEETS {
-        check_too_few::<C>(heap, n, k, sheet, written)?;
-        check_room::<C>(heap, n, k, sheet, written, 0)?;
-        check_room::<C>(heap, n, k, sheet, written, 1)?;
-        check_room::<C>(heap, n, k, sheet, written, 50)?;
+        let few = written.len().saturating_sub(1);
+        check_room(n, k, sheet, written, few, table, working)?;
+        check_room(n, k, sheet, written, written.len(), table, working)?;
+        check_room(n, k, sheet, written, MOST, table, working)?;
     }
     Ok(())
 }
 
 #[test]
-fn positional_sheets_come_back(rt: LibcRuntime) -> Result<(), Fail> {
-    check_sheets::<PositionalNotation>(rt.alloc())
+fn positional_sheets_come_back() -> Result<(), Fail> {
+    let mut table = [PositionalNotation::blank(); 128];
+    let mut working = [PositionalNotation::blank(); 256];
+    check_sheets::<PositionalNotation>(&mut table, &mut working)
 }
 
 #[test]
-fn min_max_sheets_come_back(rt: LibcRuntime) -> Result<(), Fail> {
-    check_sheets::<MinMaxNotation>(rt.alloc())
+fn min_max_sheets_come_back() -> Result<(), Fail> {
+    let mut table = [MinMaxNotation::blank(); 128];
+    let mut working = [MinMaxNotation::blank(); 256];
+    check_sheets::<MinMaxNotation>(&mut table, &mut working)
 }
