@@ -24,7 +24,7 @@ sheet-over n most bytes F s = every-of n F (sheet-twenty n most bytes F s) (shee
 pub shown-sheet : (n most : ℕ) (bytes : List ℕ) (F : Cover) → Sheet n most bytes F → Sheet n most bytes (shown bytes)
 shown-sheet n most bytes F s = subst (Sheet n most bytes) (s .shows) s
 
-every-twenty : (n : ℕ) (F : Cover) → Every n F → Each (λ (c : Cube). length c ≡ 20) F
+pub every-twenty : (n : ℕ) (F : Cover) → Every n F → Each (λ (c : Cube). length c ≡ 20) F
 every-twenty n [] e = tt
 every-twenty n (c ∷ F) e = (e .0 .twenty, every-twenty n F (e .1))
 

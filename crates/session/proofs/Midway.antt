@@ -68,7 +68,7 @@ module _ {at : Setting} where
   ended {ls} {rest} {out} on v e m = after-all rest (subst (λ s. Midway at ls rest s out) (cond-false on (running v) (over (Some v)) e) m)
 
   -- all lines of the text were run
-  pub text-ran : {ls : List Line} {text out : List ℕ} {s : Status} (run : Run) (cells : Cover) → ls ≡ lines-of text → Midway at ls [] s out → vec-items (run .output) ≡ out → Left s (run .calculator) cells → Text-ran at text run cells
+  pub text-ran : {ls : List Line} {text out : List ℕ} {s : Status} (run : Run) (cells : Cover) → ls ≡ lines-of text → Midway at ls [] s out → vec-items (run .output) ≡ out → Left (at .cells) s (run .calculator) cells → Text-ran at text run cells
   text-ran {ls} {text} {out} {s} run cells is m prints left = record {
     events = m .events;
     status = s;

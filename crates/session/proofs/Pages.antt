@@ -1,5 +1,5 @@
 -- The texts of a line are short.
-use mathlib.Core.Path.{_≡_, sym, subst}
+use mathlib.Core.Path.{sym, subst}
 use mathlib.Core.List.{[], _∷_, _++_}
 use Prim.Native.Nat.{ℕ, _<_, _≤_, _^_}
 use native.Mathlib.Omega.{arith}
@@ -8,29 +8,23 @@ use lib.ListN.{length}
 use Rattle.std.specs.Written.{decimal}
 use Rattle.std.proofs.shelf.Decimals.{length-decimal-le}
 use Rattle.std.proofs.shelf.Lists.{length-append}
-use Rattle.cube.specs.Slots.{Cube, Cover}
-use Rattle.sheet.specs.Sheet.{Each}
 use Rattle.sheet.specs.Writing.{write-sheet}
 use Rattle.sheet.proofs.Lengths.{sheet-short}
 use Rattle.life.specs.View.{given}
 use Rattle.life.specs.History.{rows}
-use Rattle.life.proofs.Overs.{Every}
+use Rattle.life.proofs.Sheets.{every-twenty}
 use Rattle.life.proofs.Sound.{sound-of, operand-is}
 use Rattle.command.specs.declared.report.Layer.{Layer}
 use Rattle.command.specs.declared.report.Layer.the-variants.{Sheet, Command, Calculator}
 use Rattle.command.specs.Report.{layer-name, report}
 use Rattle.session.specs.Page.{Sheets-fit, Reports-fit}
 
-twenty : (n : ℕ) (F : Cover) → Every n F → Each (λ (c : Cube). length c ≡ 20) F
-twenty n [] e = tt
-twenty n (c ∷ F) e = (e .0 .twenty, twenty n F (e .1))
-
 pub sheets-fit : Sheets-fit
 sheets-fit v es lived few k h =
     let s = sound-of lived in
     let F = rows (given v) es k in
     let m = s .few k in
-    let b = sheet-short (v .n) F (s .ranged .small) (omega arith) (twenty (v .n) F (s .over k)) in
+    let b = sheet-short (v .n) F (s .ranged .small) (omega arith) (every-twenty (v .n) F (s .over k)) in
     let short : length (write-sheet (v .n) F) ≤ 9612 = omega arith in
     subst (λ G. length (write-sheet (v .n) G) ≤ 9612) (sym (operand-is v es s k h)) short
 

@@ -19,7 +19,7 @@ pub record Text-ran (at : Setting) (text : List ℕ) (run : Run) (cells : Cover)
   pub events : List Event
   pub status : Status
   pub ran : Ran at (lines-of text) events status (vec-items (run .output))
-  pub left : Left status (run .calculator) cells
+  pub left : Left (at .cells) status (run .calculator) cells
   pub alive : Alive status events
 
 -- a longer one was refused as a whole

@@ -51,13 +51,13 @@ abbrev pub status-after : Result Turn Failure → View → Status
 status-after (Ok turn) v = cond (turn .«goes_on») (running v) (over (Some v))
 status-after (Err f) v = running v
 
--- the calculator that a run leaves, if it made one
-abbrev pub Left : Status → Option Calculator → Cover → Type 0
-Left waiting None cells = Unit {0}
-Left waiting (Some c) cells = ⊥
-Left (running v) None cells = ⊥
-Left (running v) (Some c) cells = v ≡ view c cells
-Left (over None) None cells = Unit {0}
-Left (over None) (Some c) cells = ⊥
-Left (over (Some v)) None cells = ⊥
-Left (over (Some v)) (Some c) cells = v ≡ view c cells
+-- the calculator that a run leaves, if it made one; where it made none, the register table is as it was at first
+abbrev pub Left : Cover → Status → Option Calculator → Cover → Type 0
+Left first waiting None cells = cells ≡ first
+Left first waiting (Some c) cells = ⊥
+Left first (running v) None cells = ⊥
+Left first (running v) (Some c) cells = v ≡ view c cells
+Left first (over None) None cells = cells ≡ first
+Left first (over None) (Some c) cells = ⊥
+Left first (over (Some v)) None cells = ⊥
+Left first (over (Some v)) (Some c) cells = v ≡ view c cells

@@ -4,4 +4,4 @@ use Rattle.min_max.proofs.MinMaxNotation.the-impl.Needs as need
 
 pub twenty-law : need.twenty-law
 unfolding pair-slots
-twenty-law c = refl
+twenty-law cube = refl

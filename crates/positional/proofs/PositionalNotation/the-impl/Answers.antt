@@ -4,4 +4,4 @@ use Rattle.positional.proofs.PositionalNotation.the-impl.Needs as need
 
 pub twenty-law : need.twenty-law
 unfolding word-slots
-twenty-law c = refl
+twenty-law cube = refl

@@ -14,7 +14,7 @@ returns-in-Silent g c =
     let cells = map (g .C·CubeNotation .slots) (c .args .table .now) in
     let at = setting (c .args .files .now) cells (length (c .args .working .now)) (length (c .args .page .now)) in
     record {
-      short = λ h. text-ran (record { output = c .new .result; calculator = None }) cells (c .new-lines .ensures) (c .in-Silent .ensures tt at) (c .new .ensures .items) tt;
+      short = λ h. text-ran (record { output = c .new .result; calculator = None }) cells (c .new-lines .ensures) (c .in-Silent .ensures tt at) (c .new .ensures .items) refl;
       long = λ h. absurd (omega (arith, c .if-text-gt-MOST-COMMAND-BYTES .left));
     }
 
@@ -24,7 +24,7 @@ returns-in-Refused g c =
     let at = setting (c .args .files .now) cells (length (c .args .working .now)) (length (c .args .page .now)) in
     let m = after-all _ (c .in-Refused .ensures tt at) in
     record {
-      short = λ h. made-weaker (c .end-refused .result) _ _ (λ run p. text-ran run cells (c .new-lines .ensures) m (p .0) (subst (λ k. Left (over None) k cells) (sym (p .1)) tt)) (c .end-refused .ensures at refl);
+      short = λ h. made-weaker (c .end-refused .result) _ _ (λ run p. text-ran run cells (c .new-lines .ensures) m (p .0) (subst (λ k. Left cells (over None) k cells) (sym (p .1)) refl)) (c .end-refused .ensures at refl);
       long = λ h. absurd (omega (arith, c .if-text-gt-MOST-COMMAND-BYTES .left));
     }
 
