@@ -1,4 +1,6 @@
 // Tables of cases, walked by tests: what a host and a user of the console see, row by row.
+#![tactic(auto)]
+
 #[cfg(test)]
 mod calls;
 #[cfg(test)]

@@ -1,4 +1,6 @@
 // The console: a command text from standard input, sheets from the working folder, and what is printed to standard output.
+#![tactic(auto)]
+
 use command::files::Files;
 use cube::notation::CubeNotation;
 use session::line::MOST_SHEET_BYTES;

@@ -1,4 +1,6 @@
 // Cubes of twenty slots, what every notation for them answers, and the numbers and refusals that every layer shares.
+#![tactic(auto)]
+
 pub mod notation;
 pub mod refusal;
 pub mod shape;

@@ -1,4 +1,6 @@
 // The law of lives, as a calculator's contracts cite it.
+#![tactic(auto)]
+
 ghost use Rattle.life.specs.Example.{ExampleIsLived};
 ghost use Rattle.life.specs.Law.{LivesKeepTheLaw, NewCalculatorsLive, CallsGoOn};
 

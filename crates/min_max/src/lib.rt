@@ -1,4 +1,6 @@
 // A cube as two words, the least and the greatest state that it says yes to; min 1 with max 0 is read as Blank.
+#![tactic(auto)]
+
 ghost use Rattle.min_max.specs.MinMax.{slot_of, pair_slots, ProperPair};
 ghost use Rattle.cube.specs.Slots.{blank_cube, with_slot, cube_meet};
 ghost use Rattle.std.specs.Prelude.{◌≡◌, ◌<◌, ◌≤◌, IfSome};

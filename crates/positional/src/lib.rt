@@ -1,4 +1,6 @@
 // A cube as one word, two bits to a slot: 10 is No, 01 is Yes, 11 is Blank, and 00 is read as Blank.
+#![tactic(auto)]
+
 ghost use Rattle.std.specs.Prelude.{◌≡◌, ◌<◌, IfSome};
 ghost use Rattle.std.proofs.Math.Path.{refl};
 ghost use Rattle.positional.specs.Fields.{field_slot, word_slots, filled_word, spread_word, state_pattern, ProperWord};

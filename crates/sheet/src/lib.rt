@@ -1,3 +1,5 @@
 // Sheets of cubes: reading and writing.
+#![tactic(auto)]
+
 pub mod reading;
 pub mod writing;

@@ -1,4 +1,6 @@
 // The tokens of a text, the numbers that they write, and the writing of numbers.
+#![tactic(auto)]
+
 pub mod bytes;
 pub mod numeral;
 pub mod output;

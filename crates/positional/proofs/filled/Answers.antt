@@ -3,8 +3,8 @@ use lib.Bits.{bit_and, bit_or, and_le_r, xor_lt}
 use Rattle.positional.proofs.Word.{fill_code}
 use Rattle.positional.proofs.filled.Goals as goal
 
-pub overflow-mul-result : goal.overflow-mul-result
-overflow-mul-result c =
+pub overflow_mul-result : goal.overflow_mul-result
+overflow_mul-result c =
     let w = c.args.word in
     let x = bit_and (bit_or w (w / 2)) 366503875925 in
     let small : x < 2 ^ 39 = omega (arith, and_le_r (bit_or w (w / 2)) 366503875925) in

@@ -11,6 +11,6 @@ returns c =
     let low = c.args.self.min in
     let high = c.args.self.max in
     let within : k < 20 = omega arith in
-    c.slot-of.ensures ∙ ap₂ slot_of (and_mask (low / 2 ^ k) 1) (and_mask (high / 2 ^ k) 1)
+    c.slot_of.ensures ∙ ap₂ slot_of (and_mask (low / 2 ^ k) 1) (and_mask (high / 2 ^ k) 1)
     ∙ slot_pair 20 k low high within
     ∙ ap (λ i. get_or (pair_slots 20 low high) (i - 1) Blank) c.number-k.ensures.value

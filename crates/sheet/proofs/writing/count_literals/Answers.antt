@@ -10,5 +10,5 @@ loop-v-preserved g c =
     let v = c.loop-v.v in
     let inside : v < length ss = omega (arith, g.met.C.CubeNotation.twenty c.args.cube) in
     let place : c.nearest.result.number - 1 ≡ v = omega (arith, c.nearest.ensures) in
-    let added = c.literals-in-count.ensures.value ∙ ap one (c.slot.ensures ∙ ap (λ i. get_or ss i Blank) place) in
-    (omega (arith, c.literals-in-count.ensures.bound), omega (arith, filled_more ss v inside, added))
+    let added = c.literals_in-count.ensures.value ∙ ap one (c.slot.ensures ∙ ap (λ i. get_or ss i Blank) place) in
+    (omega (arith, c.literals_in-count.ensures.bound), omega (arith, filled_more ss v inside, added))

@@ -9,6 +9,6 @@ returns g c =
     let ss = g.C.CubeNotation.slots c.args.cube in
     let n = c.args.n in
     record {
-      laid = laid_as (ap (λ k. decimal k ++ (write_literals 1 (take n ss) ++ 10 ∷ [])) c.count-literals.ensures.value ∙ cube_above n ss) (laid_then c.put-number-count.ensures.laid (laid_then c.put-literals-literals.ensures.laid c.put.ensures));
-      short = omega (arith, c.put-number-count.ensures.short, c.put-literals-literals.ensures.short, c.put.ensures.place);
+      laid = laid_as (ap (λ k. decimal k ++ (write_literals 1 (take n ss) ++ 10 ∷ [])) c.count_literals.ensures.value ∙ cube_above n ss) (laid_then c.put_number-count.ensures.laid (laid_then c.put_literals-literals.ensures.laid c.put.ensures));
+      short = omega (arith, c.put_number-count.ensures.short, c.put_literals-literals.ensures.short, c.put.ensures.place);
     }

@@ -8,8 +8,8 @@ use Rattle.sheet.proofs.writing.put_cubes.Goals as goal
 
 pub loop-cube-preserved : goal.loop-cube-preserved
 loop-cube-preserved g c = (
-  omega (arith, c.put-cube-end.ensures.short, c.loop-cube.invariant.0),
-  laid_as (cubes_more c.args.n g.C.CubeNotation.slots c.args.cubes.now c.loop-cube.cube-index c.cube-item.result c.loop-cube-test.true c.cube-item.is) (laid_then c.loop-cube.invariant.1 c.put-cube-end.ensures.laid),
+  omega (arith, c.put_cube-end.ensures.short, c.loop-cube.invariant.0),
+  laid_as (cubes_more c.args.n g.C.CubeNotation.slots c.args.cubes.now c.loop-cube.cube-index c.cube-item.result c.loop-cube-test.true c.cube-item.is) (laid_then c.loop-cube.invariant.1 c.put_cube-end.ensures.laid),
 )
 
 pub returns : goal.returns

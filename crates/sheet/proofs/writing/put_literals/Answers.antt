@@ -12,6 +12,6 @@ loop-v-preserved g c =
     let inside : v < length ss = omega (arith, g.met.C.CubeNotation.twenty c.args.cube) in
     let place : c.nearest.result.number - 1 ≡ v = omega (arith, c.nearest.ensures) in
     let met = c.slot.ensures ∙ ap (λ i. get_or ss i Blank) place in (
-      omega (arith, c.put-literal-end.ensures.short),
-      laid_as (ap (λ s. write_literals 1 (take v ss) ++ write_literal (v + 1) s) met ∙ literals_more ss v inside) (laid_then c.loop-v.invariant.1 c.put-literal-end.ensures.laid),
+      omega (arith, c.put_literal-end.ensures.short),
+      laid_as (ap (λ s. write_literals 1 (take v ss) ++ write_literal (v + 1) s) met ∙ literals_more ss v inside) (laid_then c.loop-v.invariant.1 c.put_literal-end.ensures.laid),
     )

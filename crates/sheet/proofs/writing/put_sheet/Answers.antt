@@ -15,6 +15,6 @@ returns g c =
     record {
       laid = laid_as
           (ap (λ k. (decimal n ++ 10 ∷ (decimal k ++ 10 ∷ [])) ++ write_cubes cs) count ∙ sheet_pieces n cs)
-          (laid_then (laid_then c.put-number-first.ensures.laid (laid_then c.put-line1.ensures (laid_then c.put-number-second.ensures.laid c.put-line2.ensures))) c.put-cubes.ensures.laid);
-      short = c.put-cubes.ensures.short;
+          (laid_then (laid_then c.put_number-first.ensures.laid (laid_then c.put-line1.ensures (laid_then c.put_number-second.ensures.laid c.put-line2.ensures))) c.put_cubes.ensures.laid);
+      short = c.put_cubes.ensures.short;
     }

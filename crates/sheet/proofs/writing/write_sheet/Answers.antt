@@ -8,17 +8,17 @@ use Rattle.sheet.proofs.writing.write_sheet.Goals as goal
 pub returns : goal.returns
 returns g c =
     let n = c.args.shape.variables in
-    let r = c.write-under.result in
+    let r = c.write_under.result in
     let out = c.args.out.now in
-    let last = c.write-under.new.out in
+    let last = c.write_under.new.out in
     let f = g.C.CubeNotation.slots in
     let xs = c.args.cubes.now in
     let cs : Cover = map (blank_above n) (map f xs) in
-    let w : Writes (write_sheet n cs) out r last = subst (λ k. Writes (write_sheet k (map (blank_above k) (map f xs))) out r last) c.variables.ensures.value c.write-under.ensures.result in
+    let w : Writes (write_sheet n cs) out r last = subst (λ k. Writes (write_sheet k (map (blank_above k) (map f xs))) out r last) c.variables.ensures.value c.write_under.ensures.result in
     let back : Returns n cs r last = returns_from n cs out last r c.args.shape.few_variables (good_above n f xs g.met.C.CubeNotation.twenty) w in
     record {
       result = w;
-      exact = subst (λ k. Exact (length xs) (write_sheet k (map (blank_above k) (map f xs))) out r) c.variables.ensures.value c.write-under.ensures.exact;
+      exact = subst (λ k. Exact (length xs) (write_sheet k (map (blank_above k) (map f xs))) out r) c.variables.ensures.value c.write_under.ensures.exact;
       sheet = wrote_from n cs last r back;
-      reads-back = back;
+      reads_back = back;
     }

@@ -8,7 +8,7 @@ pub loop-b-preserved : goal.loop-b-preserved
 loop-b-preserved c =
     let i = c.loop-b.b-index in
     let p : 10 ^ (i + 1) ≡ 10 ^ i * 10 = rw add-one (pow-suc 10 i) in
-    let d = c.with-digit-size.ensures in
+    let d = c.with_digit-size.ensures in
     let rest = drop (i + 1) c.args.text.now in (
       omega (arith, p, d.bound, c.loop-b.invariant.0),
       ap (λ v. size_from v rest) d.value ∙ sym (at_drop_more (size_from c.loop-b.size) c.args.text.now i 0 c.loop-b-test.true) ∙ c.loop-b.invariant.1,

@@ -13,5 +13,5 @@ returns-then-k-lt10 t c =
 pub returns : goal.returns
 returns t c =
     let m = length-decimal-le 10 c.args.k (omega arith) (omega arith) (omega arith) in
-    let l = laid_as (sym (decimal_step c.args.k (omega arith) (omega arith))) (laid_then c.put-number-end.ensures.laid c.put-2.ensures) in
+    let l = laid_as (sym (decimal_step c.args.k (omega arith) (omega arith))) (laid_then c.put_number-end.ensures.laid c.put-2.ensures) in
     record { laid = l; short = omega (arith, l.place) }
