@@ -87,7 +87,7 @@ fn read_line<C: CubeNotation>(
     working: &mut [C],
     out: &mut [u8],
 ) -> Result<usize, Failure>
-    ensures { (cells : Cover) (l : Line) → l.number ≡ line → asked_on false l.at l.bytes ≡ Ok (Some (read k.number)) → LineRan (setting files.now cells (length working.old) (length out.old)) (running (view calculator.old (map slots table.old))) l (running (view calculator.new (map slots table.new))) out.old result out.new }
+    ensures { (cells : Cover) (l : Line) → l.number ≡ line → asked_on false l.at l.bytes ≡ Ok (Some (read k.number)) → LineRan (setting files.now cells (length working.old) (length out.old)) (running (view calculator.old (map C.slots table.old))) l (running (view calculator.new (map C.slots table.new))) out.old result out.new }
 {
     let Some(bytes) = files.sheet(k) else {
         return refuse(heap, line, Layer::Command, Refusal::NoSuchFile, out);
@@ -110,7 +110,7 @@ fn print_line<C: CubeNotation>(
     table: &[C],
     out: &mut [u8],
 ) -> Result<usize, Failure>
-    ensures { (files : Files) (cells : Cover) (working : ℕ) (l : Line) → l.number ≡ line → asked_on false l.at l.bytes ≡ Ok (Some (print k.number)) → LineRan (setting files cells working (length out.old)) (running (view calculator.old (map slots table.now))) l (running (view calculator.new (map slots table.now))) out.old result out.new }
+    ensures { (files : Files) (cells : Cover) (working : ℕ) (l : Line) → l.number ≡ line → asked_on false l.at l.bytes ≡ Ok (Some (print k.number)) → LineRan (setting files cells working (length out.old)) (running (view calculator.old (map C.slots table.now))) l (running (view calculator.new (map C.slots table.now))) out.old result out.new }
 {
     match calculator.write(k, table, out) {
         Ok(length) => Ok(length),
@@ -134,7 +134,7 @@ fn run_command<C: CubeNotation>(
     working: &mut [C],
     out: &mut [u8],
 ) -> Result<Turn, Failure>
-    ensures { (cells : Cover) (l : Line) → l.number ≡ line → asked_on false l.at l.bytes ≡ Ok (Some (asked command)) → LineRan (setting files.now cells (length working.old) (length out.old)) (running (view calculator.old (map slots table.old))) l (status_after result (view calculator.new (map slots table.new))) out.old (printed_of result) out.new }
+    ensures { (cells : Cover) (l : Line) → l.number ≡ line → asked_on false l.at l.bytes ≡ Ok (Some (asked command)) → LineRan (setting files.now cells (length working.old) (length out.old)) (running (view calculator.old (map C.slots table.old))) l (status_after result (view calculator.new (map C.slots table.new))) out.old (printed_of result) out.new }
 {
     match command {
         Command::Read { register } => Turn::after(read_line(
@@ -165,7 +165,7 @@ pub fn run_line<C: CubeNotation>(
     working: &mut [C],
     out: &mut [u8],
 ) -> Result<Turn, Failure>
-    ensures { (cells : Cover) → LineRan (setting files.now cells (length working.old) (length out.old)) (running (view calculator.old (map slots table.old))) (line_of line.entry) (status_after result (view calculator.new (map slots table.new))) out.old (printed_of result) out.new }
+    ensures { (cells : Cover) → LineRan (setting files.now cells (length working.old) (length out.old)) (running (view calculator.old (map C.slots table.old))) (line_of line.entry) (status_after result (view calculator.new (map C.slots table.new))) out.old (printed_of result) out.new }
 {
     let number = line.number;
     match parse(line, false) {

@@ -143,7 +143,7 @@ fn run_and_print<C: CubeNotation>(
     page: &mut [u8],
     output: &mut Vec<u8>,
 ) -> Result<bool, AllocError>
-    ensures { (cells : Cover) (ls rest : List Line) → Midway (setting files.now cells (length working.old) (length page.old)) ls (line_of line.entry ∷ rest) (running (view calculator.old (map slots table.old))) output.old.items → IfOk result (λ on. Midway (setting files.now cells (length working.old) (length page.old)) ls rest (if on then running (view calculator.new (map slots table.new)) else over (Some (view calculator.new (map slots table.new)))) output.new.items) }
+    ensures { (cells : Cover) (ls rest : List Line) → Midway (setting files.now cells (length working.old) (length page.old)) ls (line_of line.entry ∷ rest) (running (view calculator.old (map C.slots table.old))) output.old.items → IfOk result (λ on. Midway (setting files.now cells (length working.old) (length page.old)) ls rest (if on then running (view calculator.new (map C.slots table.new)) else over (Some (view calculator.new (map C.slots table.new)))) output.new.items) }
 {
     let number = line.number;
     match run_line(heap, calculator, line, files, table, working, page) {
@@ -168,7 +168,7 @@ fn run_lines<C: CubeNotation>(
     working: &mut [C],
     page: &mut [u8],
 ) -> Result<Run, AllocError>
-    ensures { (cells : Cover) (t : List ℕ) → Midway (setting files.now cells (length working.old) (length page.old)) (lines_of t) (lines_left lines.entry) (running (view calculator (map slots table.old))) [] → IfOk result (λ run. TextRan (setting files.now cells (length working.old) (length page.old)) t run (map slots table.new)) }
+    ensures { (cells : Cover) (t : List ℕ) → Midway (setting files.now cells (length working.old) (length page.old)) (lines_of t) (lines_left lines.entry) (running (view calculator (map C.slots table.old))) [] → IfOk result (λ run. TextRan (setting files.now cells (length working.old) (length page.old)) t run (map C.slots table.new)) }
 {
     let mut output = Vec::new(heap);
     while let Some(line) = lines.next() {
@@ -201,7 +201,7 @@ pub fn run_text<C: CubeNotation>(
     working: &mut [C],
     page: &mut [u8],
 ) -> Result<Run, AllocError>
-    ensures short { length text.now ≤ 4096 → IfOk result (λ run. TextRan (setting files.now (map slots table.old) (length working.old) (length page.old)) text.now run (map slots table.new)) }
+    ensures short { length text.now ≤ 4096 → IfOk result (λ run. TextRan (setting files.now (map C.slots table.old) (length working.old) (length page.old)) text.now run (map C.slots table.new)) }
     ensures long { 4096 < length text.now → IfOk result (λ run. TextRefused run) × (table.new ≡ table.old) }
 {
     if text.len() > MOST_COMMAND_BYTES {

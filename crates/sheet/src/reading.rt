@@ -182,7 +182,7 @@ fn is_complete(state: ReaderState) -> bool
 fn perform<C: CubeNotation>(deed: Deed, out: &mut [C], count: usize) -> usize
     requires { (Ready (length out.old) deed count) × ((Within 20 deed) × (count ≤ length out.old)) }
     ensures number { result ≡ counted deed count }
-    ensures cubes { take result (map slots out.new) ≡ act deed (take count (map slots out.old)) }
+    ensures cubes { take result (map C.slots out.new) ≡ act deed (take count (map C.slots out.old)) }
     ensures kept { (most : ℕ) → Ready most deed count → drop most out.new ≡ drop most out.old }
 {
     match deed {
@@ -206,7 +206,7 @@ fn read_within<C: CubeNotation>(
     out: &mut [C],
 ) -> Result<usize, Refusal>
     requires { (n ≤ 20) × (most ≤ length out.old) }
-    ensures result { Reads (read_sheet n most text.now) result (map slots out.new) }
+    ensures result { Reads (read_sheet n most text.now) result (map C.slots out.new) }
     ensures within { IfOk result (λ k. k ≤ most) }
     ensures kept { drop most out.new ≡ drop most out.old }
 {
@@ -233,8 +233,8 @@ pub fn read_sheet<C: CubeNotation>(
     text: &[u8],
     out: &mut [C],
 ) -> Result<usize, Refusal>
-    ensures result { Reads (read_into shape.variables shape.places (length out.old) text.now) result (map slots out.new) }
-    ensures accepted { Accepts shape.variables shape.places (length out.old) text.now result (map slots out.new) }
+    ensures result { Reads (read_into shape.variables shape.places (length out.old) text.now) result (map C.slots out.new) }
+    ensures accepted { Accepts shape.variables shape.places (length out.old) text.now result (map C.slots out.new) }
     ensures within { IfOk result (λ k. k ≤ shape.places) }
     ensures kept { drop shape.places out.new ≡ drop shape.places out.old }
 {

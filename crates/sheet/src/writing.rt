@@ -45,7 +45,7 @@ fn literals_in(slot: Slot) -> u32
 // How many of the first `n` slots are not Blank.
 fn count_literals<C: CubeNotation>(n: u32, cube: C) -> u32
     requires { n ≤ 20 }
-    ensures value { result ≡ filled (take n (slots cube)) }
+    ensures value { result ≡ filled (take n (C.slots cube)) }
     ensures bound { result ≤ n }
 {
     let mut count = 0;
@@ -58,7 +58,7 @@ fn count_literals<C: CubeNotation>(n: u32, cube: C) -> u32
 // The literals of the first `n` slots.
 fn put_literals<C: CubeNotation>(n: u32, cube: C, out: &mut [u8], at: usize) -> usize
     requires { (n ≤ 20) × (at < 100000000) }
-    ensures laid { Laid out.old at (write_literals 1 (take n (slots cube))) result out.new }
+    ensures laid { Laid out.old at (write_literals 1 (take n (C.slots cube))) result out.new }
     ensures short { result ≤ at + 12 * n }
 {
     let mut end = at;
@@ -71,7 +71,7 @@ fn put_literals<C: CubeNotation>(n: u32, cube: C, out: &mut [u8], at: usize) -> 
 // The line of a cube, with the slots above `n` taken as Blank.
 fn put_cube<C: CubeNotation>(n: u32, cube: C, out: &mut [u8], at: usize) -> usize
     requires { (n ≤ 20) × (at < 50000000) }
-    ensures laid { Laid out.old at (write_cube (blank_above n (slots cube))) result out.new }
+    ensures laid { Laid out.old at (write_cube (blank_above n (C.slots cube))) result out.new }
     ensures short { result ≤ at + 251 }
 {
     let count = put_number(count_literals(n, cube), out, at);
@@ -81,7 +81,7 @@ fn put_cube<C: CubeNotation>(n: u32, cube: C, out: &mut [u8], at: usize) -> usiz
 
 fn put_cubes<C: CubeNotation>(n: u32, cubes: &[C], out: &mut [u8], at: usize) -> usize
     requires { (n ≤ 20) × ((length cubes.now < 65536) × (at ≤ 22)) }
-    ensures laid { Laid out.old at (write_cubes (map (blank_above n) (map slots cubes.now))) result out.new }
+    ensures laid { Laid out.old at (write_cubes (map (blank_above n) (map C.slots cubes.now))) result out.new }
     ensures short { result ≤ 22 + 251 * length cubes.now }
 {
     let mut end = at;
@@ -93,7 +93,7 @@ fn put_cubes<C: CubeNotation>(n: u32, cubes: &[C], out: &mut [u8], at: usize) ->
 
 fn put_sheet<C: CubeNotation>(n: u32, cubes: &[C], out: &mut [u8]) -> usize
     requires { (n ≤ 20) × (length cubes.now < 65536) }
-    ensures laid { Laid out.old 0 (write_sheet n (map (blank_above n) (map slots cubes.now))) result out.new }
+    ensures laid { Laid out.old 0 (write_sheet n (map (blank_above n) (map C.slots cubes.now))) result out.new }
     ensures short { result ≤ 22 + 251 * length cubes.now }
 {
     let first = put_number(n, out, 0);
@@ -105,8 +105,8 @@ fn put_sheet<C: CubeNotation>(n: u32, cubes: &[C], out: &mut [u8]) -> usize
 
 fn write_under<C: CubeNotation>(n: u32, cubes: &[C], out: &mut [u8]) -> Result<usize, Refusal>
     requires { n ≤ 20 }
-    ensures result { Writes (write_sheet n (map (blank_above n) (map slots cubes.now))) out.old result out.new }
-    ensures exact { Exact (length cubes.now) (write_sheet n (map (blank_above n) (map slots cubes.now))) out.old result }
+    ensures result { Writes (write_sheet n (map (blank_above n) (map C.slots cubes.now))) out.old result out.new }
+    ensures exact { Exact (length cubes.now) (write_sheet n (map (blank_above n) (map C.slots cubes.now))) out.old result }
 {
     // A sheet has more bytes than cubes.
     if cubes.len() > MOST_BYTES {
@@ -126,10 +126,10 @@ pub fn write_sheet<C: CubeNotation>(
     cubes: &[C],
     out: &mut [u8],
 ) -> Result<usize, Refusal>
-    ensures result { Writes (write_sheet shape.variables (map (blank_above shape.variables) (map slots cubes.now))) out.old result out.new }
-    ensures exact { Exact (length cubes.now) (write_sheet shape.variables (map (blank_above shape.variables) (map slots cubes.now))) out.old result }
-    ensures sheet { Wrote shape.variables (map (blank_above shape.variables) (map slots cubes.now)) result out.new }
-    ensures reads_back { Returns shape.variables (map (blank_above shape.variables) (map slots cubes.now)) result out.new }
+    ensures result { Writes (write_sheet shape.variables (map (blank_above shape.variables) (map C.slots cubes.now))) out.old result out.new }
+    ensures exact { Exact (length cubes.now) (write_sheet shape.variables (map (blank_above shape.variables) (map C.slots cubes.now))) out.old result }
+    ensures sheet { Wrote shape.variables (map (blank_above shape.variables) (map C.slots cubes.now)) result out.new }
+    ensures reads_back { Returns shape.variables (map (blank_above shape.variables) (map C.slots cubes.now)) result out.new }
 {
     write_under(shape.variables() as u32, cubes, out)
 }

@@ -40,9 +40,9 @@ impl Calculator {
         table: &mut [C],
         working: &mut [C],
     ) -> Result<(), Refusal>
-        ensures step { Stepped (view self.old (map slots table.old)) (event (reading k.number (sheet_of text.now)) (length working.old) (done_outcome result)) (view self.new (map slots table.new)) }
+        ensures step { Stepped (view self.old (map C.slots table.old)) (event (reading k.number (sheet_of text.now)) (length working.old) (done_outcome result)) (view self.new (map C.slots table.new)) }
         ensures kept { Fills k.number result self.old table.old self.new table.new }
-        ensures law { Goes (view self.old (map slots table.old)) (event (reading k.number (sheet_of text.now)) (length working.old) (done_outcome result)) (view self.new (map slots table.new)) }
+        ensures law { Goes (view self.old (map C.slots table.old)) (event (reading k.number (sheet_of text.now)) (length working.old) (done_outcome result)) (view self.new (map C.slots table.new)) }
     {
         let places = self.shape.places() as usize;
         if table.len() < 32 * places || working.len() < 64 * places {
@@ -60,9 +60,9 @@ impl Calculator {
         table: &[C],
         out: &mut [u8],
     ) -> Result<usize, Refusal>
-        ensures step { Stepped (view self.old (map slots table.now)) (event (writing a.number (length out.old)) 0 (text_outcome result out.new)) (view self.new (map slots table.now)) }
+        ensures step { Stepped (view self.old (map C.slots table.now)) (event (writing a.number (length out.old)) 0 (text_outcome result out.new)) (view self.new (map C.slots table.now)) }
         ensures kept { Put result self.old out.old self.new out.new }
-        ensures law { Goes (view self.old (map slots table.now)) (event (writing a.number (length out.old)) 0 (text_outcome result out.new)) (view self.new (map slots table.now)) }
+        ensures law { Goes (view self.old (map C.slots table.now)) (event (writing a.number (length out.old)) 0 (text_outcome result out.new)) (view self.new (map C.slots table.now)) }
     {
         let places = self.shape.places() as usize;
         if table.len() < 32 * places {
