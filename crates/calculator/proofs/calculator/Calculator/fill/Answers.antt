@@ -9,27 +9,27 @@ use Rattle.calculator.proofs.calculator.Calculator.fill.Goals as goal
 reach : (k p q n len : ℕ) → k < 32 → p ≡ q → n ≤ q → 32 * q ≤ len → k * p + n ≤ len
 reach k p q n len hk e hn hl = within_table k p n len hk (omega arith) (omega arith)
 
-pub slice-bounds-carry-count : goal.slice-bounds-carry-count
-slice-bounds-carry-count g c =
+pub slice_bounds-carry-count : goal.slice_bounds-carry-count
+slice_bounds-carry-count g c =
     let q = c.args.self.now.shape.places in
     let z : 0 ≤ q = omega arith in
     omega (arith, reach c.number.result c.places.result q 0 (length c.args.table.now) c.number.ensures.within c.places.ensures.value z c.requires.roomy)
 
-pub offset-bounds-table-start : goal.offset-bounds-table-start
-offset-bounds-table-start g c = let h : c.number.result * c.places.result ≤ length c.args.table.now = slice-bounds-carry-count g c in search rules
+pub offset_bounds-table-start : goal.offset_bounds-table-start
+offset_bounds-table-start g c = let h : c.number.result * c.places.result ≤ length c.args.table.now = slice_bounds-carry-count g c in search rules
 
-pub slice-bounds-carry-start : goal.slice-bounds-carry-start
-slice-bounds-carry-start g c = slice-bounds-carry-count g c
+pub slice_bounds-carry-start : goal.slice_bounds-carry-start
+slice_bounds-carry-start g c = slice_bounds-carry-count g c
 
 pub carry-requires : goal.carry-requires
 carry-requires g c =
     let h = reach c.number.result c.places.result _ c.args.count (length c.args.table.now) c.number.ensures.within c.places.ensures.value c.requires.few c.requires.roomy in
     (c.requires.enough, simp (take_rest, length-drop) (omega arith))
 
-pub invariant-of-self : goal.invariant-of-self
-invariant-of-self g c =
+pub invariant_of-self : goal.invariant_of-self
+invariant_of-self g c =
     let m = c.args.self.now in
-    (few_after (registers_of m.registers) (registers_of c.hold.new.self) c.args.k.number c.args.count m.shape.places c.requires.few m.within c.hold.ensures.records, tt)
+    record { within = few_after (registers_of m.registers) (registers_of c.hold.new.self) c.args.k.number c.args.count m.shape.places c.requires.few m.within c.hold.ensures.records }
 
 pub returns : goal.returns
 returns g c =

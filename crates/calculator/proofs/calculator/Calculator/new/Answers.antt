@@ -7,8 +7,10 @@ use Rattle.life.proofs.Lawful.{begins}
 use Rattle.calculator.proofs.Parts.{none_held}
 use Rattle.calculator.proofs.calculator.Calculator.new.Goals as goal
 
-pub invariant-of-result : goal.invariant-of-result
-invariant-of-result c = ((λ k. let h = ap (λ r. r.count) (ap (λ xs. get_or xs k (of_count 0)) c.new.ensures ∙ none_held 32 k) in omega (arith, h)), tt)
+pub invariant_of-result : goal.invariant_of-result
+invariant_of-result c = record {
+  within = λ k. let h = ap (λ r. r.count) (ap (λ xs. get_or xs k (of_count 0)) c.new.ensures ∙ none_held 32 k) in omega (arith, h);
+}
 
 pub returns : goal.returns
 returns c =

@@ -34,18 +34,18 @@ returns-then-table-places g c =
     ] in
     record { step = s; kept = (refl, refl); law = goes_on c.args.k.below refl s }
 
-pub returns-in-err-count : goal.returns-in-err-count
-returns-in-err-count g c =
+pub returns-in_err-count : goal.returns-in_err-count
+returns-in_err-count g c =
     let m = c.args.self.now in
     let t = c.args.table.now in
     let v = view m (map g.C.CubeNotation.slots t) in
     let w = length c.args.working.now in
-    let f = c.in-err-count.field-0.0 in
-    let p = err_from_is_err_and c.from-residual.result c.from-residual.ensures.1 in
-    let is : c.from-residual.result ≡ Err f = p.1 ∙ ap Err p.2 in
+    let f = c.in_err-count.field-0.0 in
+    let p = err_from_is_err_and c.from_residual.result c.from_residual.ensures.1 in
+    let is : c.from_residual.result ≡ Err f = p.1 ∙ ap Err p.2 in
     let long : LongTables (given v) w = (simp length-map (omega arith), omega arith) in
-    let e = read_err v.n v.places w c.args.text.now f _ (omega arith) c.in-err-count.ensures.result in
-    let s : Stepped v (event (read c.args.k.number (sheet c.args.text.now)) w (done_outcome c.from-residual.result)) v =
+    let e = read_err v.n v.places w c.args.text.now f _ (omega arith) c.in_err-count.ensures.result in
+    let s : Stepped v (event (read c.args.k.number (sheet c.args.text.now)) w (done_outcome c.from_residual.result)) v =
     subst (λ r. Stepped v (event (read c.args.k.number (sheet c.args.text.now)) w (done_outcome r)) v) (sym is)
     (read_at_fault v c.args.k.number c.args.text.now w (fault_of f) long e) in
     record { step = s; kept = subst (λ r. Fills c.args.k.number r m t m t) (sym is) (refl, refl); law = goes_on c.args.k.below refl s }
@@ -58,13 +58,13 @@ returns g c =
     let v = view m (map slots t) in
     let w = length c.args.working.now in
     let k = c.args.k.number in
-    let count = c.in-ok-count.count in
+    let count = c.in_ok-count.count in
     let work = c.read_sheet.new.out in
     let u = c.fill.new.self in
     let long : LongTables (given v) w = (simp length-map (omega arith), omega arith) in
-    let few : count ≤ v.places = c.in-ok-count.ensures.within in
+    let few : count ≤ v.places = c.in_ok-count.ensures.within in
     let wide : count ≤ length work = omega (arith, c.read_sheet.auto.out) in
-    let e = read_ok v.n v.places w c.args.text.now count (map slots work) (omega arith) c.in-ok-count.ensures.result in
+    let e = read_ok v.n v.places w c.args.text.now count (map slots work) (omega arith) c.in_ok-count.ensures.result in
     let after = filled_view slots v t c.fill.new.table work (registers_of u.registers) k count refl wide c.fill.ensures.records c.fill.ensures.cells in
     let cells = map slots c.fill.new.table in
     let same : view u cells ≡ record { n = v.n; places = v.places; registers = registers_of u.registers; cells = cells; stage = free } =

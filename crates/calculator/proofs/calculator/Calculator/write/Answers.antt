@@ -15,13 +15,13 @@ returns-then-table-places g c =
     let s = write_table_short v c.args.a.number (length c.args.out.now) 0 (simp length-map (omega arith)) in
     record { step = s; kept = (refl, refl); law = goes_on c.args.a.below refl s }
 
-pub slice-bounds-write-sheet-end : goal.slice-bounds-write-sheet-end
-slice-bounds-write-sheet-end g c =
+pub slice_bounds-write_sheet-end : goal.slice_bounds-write_sheet-end
+slice_bounds-write_sheet-end g c =
     let m = c.args.self.now in
     omega (arith, within_table c.number.result c.places-places.result c.count-count.result (length c.args.table.now) c.number.ensures.within (let h = m.within c.args.a.number in omega arith) c.if-table-places.false)
 
-pub offset-bounds-table-start : goal.offset-bounds-table-start
-offset-bounds-table-start g c =
+pub offset_bounds-table-start : goal.offset_bounds-table-start
+offset_bounds-table-start g c =
     let m = c.args.self.now in
     omega (arith, within_table c.number.result c.places-places.result c.count-count.result (length c.args.table.now) c.number.ensures.within (let h = m.within c.args.a.number in omega arith) c.if-table-places.false)
 
