@@ -13,30 +13,30 @@ returns-in-v-One c first zs a e =
     let fits : SFits w32 c.in-v-One.variables = search rules in
     ap (λ z. Ok (make z)) (to_z-of_z w32 _ fits) ∙ asked_at c.in-v-One.is-0 (counted_one zs _ (e ∙ c.in-v-One.is-1))
 
-pub returns-in-ok-new : goal.returns-in-ok-new
-returns-in-ok-new c first zs a e =
+pub returns-in_ok-new-in-r-One : goal.returns-in_ok-new-in-r-One
+returns-in_ok-new-in-r-One c first zs a e =
     let fits : SFits w32 c.in-r-One.k = search rules in
-    let k = c.in-ok-new.field-0 in
-    is_register read k.number _ k.below (c.in-ok-new.ensures ∙ to_z-of_z w32 _ fits) ∙ asked_at c.in-r-One.is-0 (counted_one zs _ (e ∙ c.in-r-One.is-1))
+    let k = c.in_ok-new-in-r-One.field-0 in
+    is_register read k.number _ k.below (c.in_ok-new-in-r-One.ensures ∙ to_z-of_z w32 _ fits) ∙ asked_at c.in-r-One.is-0 (counted_one zs _ (e ∙ c.in-r-One.is-1))
 
-pub returns-in-err-new : goal.returns-in-err-new
-returns-in-err-new c first zs a e =
+pub returns-in_err-new-in-r-One : goal.returns-in_err-new-in-r-One
+returns-in_err-new-in-r-One c first zs a e =
     let fits : SFits w32 c.in-r-One.k = search rules in
-    let p = err_from_is_err_and c.from-residual.result c.from-residual.ensures.1 in
-    let why = c.in-err-new.ensures in
+    let p = err_from_is_err_and c.from_residual.result c.from_residual.ensures.1 in
+    let why = c.in_err-new-in-r-One.ensures in
     ap asked_as p.1 ∙ ap Err (ap fault_of p.2 ∙ why.0) ∙ no_register read _ (subst (Outside 0 31) (to_z-of_z w32 _ fits) why.1) ∙ asked_at c.in-r-One.is-0 (counted_one zs _ (e ∙ c.in-r-One.is-1))
 
-pub returns-in-ok-new-2 : goal.returns-in-ok-new-2
-returns-in-ok-new-2 c first zs a e =
+pub returns-in_ok-new-in-p-One : goal.returns-in_ok-new-in-p-One
+returns-in_ok-new-in-p-One c first zs a e =
     let fits : SFits w32 c.in-p-One.k = search rules in
-    let k = c.in-ok-new-2.field-0 in
-    is_register print k.number _ k.below (c.in-ok-new-2.ensures ∙ to_z-of_z w32 _ fits) ∙ asked_at c.in-p-One.is-0 (counted_one zs _ (e ∙ c.in-p-One.is-1))
+    let k = c.in_ok-new-in-p-One.field-0 in
+    is_register print k.number _ k.below (c.in_ok-new-in-p-One.ensures ∙ to_z-of_z w32 _ fits) ∙ asked_at c.in-p-One.is-0 (counted_one zs _ (e ∙ c.in-p-One.is-1))
 
-pub returns-in-err-new-2 : goal.returns-in-err-new-2
-returns-in-err-new-2 c first zs a e =
+pub returns-in_err-new-in-p-One : goal.returns-in_err-new-in-p-One
+returns-in_err-new-in-p-One c first zs a e =
     let fits : SFits w32 c.in-p-One.k = search rules in
-    let p = err_from_is_err_and c.from-residual-in-err-new-2.result c.from-residual-in-err-new-2.ensures.1 in
-    let why = c.in-err-new-2.ensures in
+    let p = err_from_is_err_and c.from_residual-in_err-new-in-p-One.result c.from_residual-in_err-new-in-p-One.ensures.1 in
+    let why = c.in_err-new-in-p-One.ensures in
     ap asked_as p.1 ∙ ap Err (ap fault_of p.2 ∙ why.0) ∙ no_register print _ (subst (Outside 0 31) (to_z-of_z w32 _ fits) why.1) ∙ asked_at c.in-p-One.is-0 (counted_one zs _ (e ∙ c.in-p-One.is-1))
 
 pub returns-in-q-None : goal.returns-in-q-None

@@ -16,7 +16,7 @@ ending {line} {s} e o = ap (λ l. line ∷ l) (sym (cond-true _ _ _ o)) ∙ ap (
 
 pub returns : goal.returns
 returns c =
-    let e = c.line-end-end.ensures in
+    let e = c.line_end-end.ensures in
     let number = c.args.self.now.number in
     cond-false _ _ _ c.if-self.false ∙ elim c.if-end-text.branch [
       | then-end-text w ↦ line_then _ number _ _ e.after w.if-end-text.true (e.stops w.if-end-text.true) e.same ∙ going_on w.self-is c.if-self.false
