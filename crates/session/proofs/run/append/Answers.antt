@@ -11,4 +11,4 @@ pub returns-in-Ok : goal.returns-in-Ok
 returns-in-Ok c at t before room into =
     let page = c.args.page.now in
     let p = subst (λ r. Into t before r page) c.in-Ok.is into in
-    appended c.extend-from-slice.result _ _ c.extend-from-slice.ensures.items (ap (λ z. vec_items c.args.output.now ++ z) (front_printed at c.args.line room p))
+    appended c.extend_from_slice.result _ _ c.extend_from_slice.ensures.items (ap (λ z. vec_items c.args.output.now ++ z) (front_printed at c.args.line room p))

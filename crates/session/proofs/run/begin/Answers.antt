@@ -35,5 +35,5 @@ returns-in-Err c at ls rest l number asks m =
     let asked-make : asked_on true l.at l.bytes ≡ Ok (Some (make z)) = asks ∙ ap (λ k. Ok (Some (asked k))) c.in-Make.is in
     refused_first c.args.line Calculator (fault 3 0) _ number e.0 m (shape_refused asked-make (subst (Outside 1 20) (to_z-of_z w32 z fits) (outside _ e.1)))
 
-pub returns-in-default : goal.returns-in-default
-returns-in-default c at ls rest l number asks m = absurd (only_make c.args.command l asks c.in-default.not-Make)
+pub returns-in_default : goal.returns-in_default
+returns-in_default c at ls rest l number asks m = absurd (only_make c.args.command l asks c.in_default.not-Make)

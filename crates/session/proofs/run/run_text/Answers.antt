@@ -11,7 +11,7 @@ returns-in-Silent g c =
     let at = setting c.args.files.now cells (length c.args.working.now) (length c.args.page.now) in
     record {
       short = λ h. text_ran (record { output = c.new.result; calculator = None }) cells c.new-lines.ensures (c.in-Silent.ensures at) c.new.ensures.items refl;
-      long = λ h. absurd (omega (arith, c.if-text-gt-MOST-COMMAND-BYTES.false));
+      long = λ h. absurd (omega (arith, c.if-text-gt-MOST_COMMAND_BYTES.false));
     }
 
 pub returns-in-Refused : goal.returns-in-Refused
@@ -20,8 +20,8 @@ returns-in-Refused g c =
     let at = setting c.args.files.now cells (length c.args.working.now) (length c.args.page.now) in
     let m = after_all _ (c.in-Refused.ensures at) in
     record {
-      short = λ h. IfOk-weaker c.end-refused.result _ _ (λ run p. text_ran run cells c.new-lines.ensures m p.0 (subst (λ k. Left cells (over None) k cells) (sym p.1) refl)) (c.end-refused.ensures at refl);
-      long = λ h. absurd (omega (arith, c.if-text-gt-MOST-COMMAND-BYTES.false));
+      short = λ h. IfOk-weaker c.end_refused.result _ _ (λ run p. text_ran run cells c.new-lines.ensures m p.0 (subst (λ k. Left cells (over None) k cells) (sym p.1) refl)) (c.end_refused.ensures at refl);
+      long = λ h. absurd (omega (arith, c.if-text-gt-MOST_COMMAND_BYTES.false));
     }
 
 pub returns-in-Made : goal.returns-in-Made
@@ -29,6 +29,6 @@ returns-in-Made g c =
     let cells = map g.C.CubeNotation.slots c.args.table.now in
     let at = setting c.args.files.now cells (length c.args.working.now) (length c.args.page.now) in
     record {
-      short = λ h. c.run-lines.ensures cells c.args.text.now (of_text c.new-lines.ensures (c.in-Made.ensures at));
-      long = λ h. absurd (omega (arith, c.if-text-gt-MOST-COMMAND-BYTES.false));
+      short = λ h. c.run_lines.ensures cells c.args.text.now (of_text c.new-lines.ensures (c.in-Made.ensures at));
+      long = λ h. absurd (omega (arith, c.if-text-gt-MOST_COMMAND_BYTES.false));
     }
