@@ -1,5 +1,6 @@
 // Whole command texts, and all that they print.
 use crate::calls::padded;
+use crate::notations::{MinMaxCube, PositionalCube};
 use command::files::Files;
 use cube::notation::CubeNotation;
 use session::run::run_text;
@@ -277,16 +278,16 @@ fn check_texts<C: CubeNotation>(
 
 #[test]
 fn texts_print(rt: HostRuntime) -> Result<(), Fail> {
-    let mut table = [<positional::PositionalCube as CubeNotation>::blank(); 2048];
-    let mut working = [<positional::PositionalCube as CubeNotation>::blank(); 4096];
-    check_texts::<positional::PositionalCube>(&rt, rt.alloc(), &mut table, &mut working)
+    let mut table = [PositionalCube::blank(); 2048];
+    let mut working = [PositionalCube::blank(); 4096];
+    check_texts::<PositionalCube>(&rt, rt.alloc(), &mut table, &mut working)
 }
 
 #[test]
 fn texts_print_the_same_in_min_max(rt: HostRuntime) -> Result<(), Fail> {
-    let mut table = [<min_max::MinMaxCube as CubeNotation>::blank(); 2048];
-    let mut working = [<min_max::MinMaxCube as CubeNotation>::blank(); 4096];
-    check_texts::<min_max::MinMaxCube>(&rt, rt.alloc(), &mut table, &mut working)
+    let mut table = [MinMaxCube::blank(); 2048];
+    let mut working = [MinMaxCube::blank(); 4096];
+    check_texts::<MinMaxCube>(&rt, rt.alloc(), &mut table, &mut working)
 }
 
 // Tables and a page of any lengths.
@@ -300,11 +301,11 @@ fn check_lengths(
     bytes: usize,
     output: &str,
 ) -> Result<(), Fail> {
-    let mut table = [<positional::PositionalCube as CubeNotation>::blank(); 2048];
-    let mut working = [<positional::PositionalCube as CubeNotation>::blank(); 4096];
+    let mut table = [PositionalCube::blank(); 2048];
+    let mut working = [PositionalCube::blank(); 4096];
     let mut page = [0; 99];
     assert!(rt; cubes <= 2048 && room <= 4096 && bytes <= 99);
-    check_text::<positional::PositionalCube>(
+    check_text::<PositionalCube>(
         rt,
         heap,
         files,

@@ -90,50 +90,51 @@ static READS: [(&str, &str, usize, usize, &str); 12] = [
     ("3\n2\n1 2\n1 -2\n", "", 12, 2, "3\n2\n1 2\n1 -2\n"),
 ];
 
-// Register 3 is written as this sheet.
+// Register 3 is written as this sheet; a failure names the row.
 fn check_written<C: CubeNotation>(
     rt: &impl Abort,
     calculator: &mut Calculator,
     table: &[C],
     written: &str,
+    row: &str,
 ) -> Result<(), Fail> {
     let mut out = [0; 64];
     match write(calculator, 3, table, &mut out) {
         Ok(length) => {
-            assert_eq!(rt; &out[..length.min(64)], written.as_bytes());
+            assert_eq!(rt; &out[..length.min(64)], written.as_bytes(), "{}", row);
             Ok(())
-        },
+        }
         Err(_) => Err(Fail::new("the write was refused")),
     }
 }
 
 #[test]
 fn any_word_is_a_cube(rt: HostRuntime) -> Result<(), Fail> {
-    let mut table = [<PositionalCube as CubeNotation>::blank(); 128];
-    let mut working = [<PositionalCube as CubeNotation>::blank(); 256];
+    let mut table = [PositionalCube::blank(); 128];
+    let mut working = [PositionalCube::blank(); 256];
     let Ok(mut calculator) = read::<PositionalCube>(3, 3, b"3\n1\n0", &mut table, &mut working)
     else {
         return Err(Fail::new("the read was refused"));
     };
     for &(word, written) in &WORDS {
-        let mut table = [<PositionalCube as CubeNotation>::blank(); 128];
+        let mut table = [PositionalCube::blank(); 128];
         table[12] = PositionalCube::from_word(word);
-        check_written::<PositionalCube>(&rt, &mut calculator, &table, written).note(written)?;
+        check_written::<PositionalCube>(&rt, &mut calculator, &table, written, written)?;
     }
     Ok(())
 }
 
 #[test]
 fn any_pair_is_a_cube(rt: HostRuntime) -> Result<(), Fail> {
-    let mut table = [<MinMaxCube as CubeNotation>::blank(); 128];
-    let mut working = [<MinMaxCube as CubeNotation>::blank(); 256];
+    let mut table = [MinMaxCube::blank(); 128];
+    let mut working = [MinMaxCube::blank(); 256];
     let Ok(mut calculator) = read::<MinMaxCube>(3, 3, b"3\n1\n0", &mut table, &mut working) else {
         return Err(Fail::new("the read was refused"));
     };
     for &(min, max, written) in &PAIRS {
-        let mut table = [<MinMaxCube as CubeNotation>::blank(); 128];
+        let mut table = [MinMaxCube::blank(); 128];
         table[12] = MinMaxCube::from_bounds(min, max);
-        check_written::<MinMaxCube>(&rt, &mut calculator, &table, written).note(written)?;
+        check_written::<MinMaxCube>(&rt, &mut calculator, &table, written, written)?;
     }
     Ok(())
 }
@@ -178,7 +179,7 @@ fn reads_change_their_own_places_alone(rt: HostRuntime) -> Result<(), Fail> {
             return Err(Fail::new("the read was refused"));
         };
         assert_eq!(rt; unmarked(&table), (first, count), "{}", text);
-        check_written::<PositionalCube>(&rt, &mut calculator, &table, after).note(text)?;
+        check_written::<PositionalCube>(&rt, &mut calculator, &table, after, text)?;
     }
     Ok(())
 }

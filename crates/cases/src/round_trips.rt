@@ -1,5 +1,6 @@
 // Sheets that are read and written again.
 use crate::calls::{read, write};
+use crate::notations::{MinMaxCube, PositionalCube};
 use cube::notation::CubeNotation;
 use cube::refusal::Refusal;
 use std::process::Abort;
@@ -96,14 +97,14 @@ fn check_sheets<C: CubeNotation>(rt: &impl Abort, table: &mut [C], working: &mut
 
 #[test]
 fn positional_sheets_come_back(rt: HostRuntime) {
-    let mut table = [<positional::PositionalCube as CubeNotation>::blank(); 128];
-    let mut working = [<positional::PositionalCube as CubeNotation>::blank(); 256];
-    check_sheets::<positional::PositionalCube>(&rt, &mut table, &mut working);
+    let mut table = [PositionalCube::blank(); 128];
+    let mut working = [PositionalCube::blank(); 256];
+    check_sheets::<PositionalCube>(&rt, &mut table, &mut working);
 }
 
 #[test]
 fn min_max_sheets_come_back(rt: HostRuntime) {
-    let mut table = [<min_max::MinMaxCube as CubeNotation>::blank(); 128];
-    let mut working = [<min_max::MinMaxCube as CubeNotation>::blank(); 256];
-    check_sheets::<min_max::MinMaxCube>(&rt, &mut table, &mut working);
+    let mut table = [MinMaxCube::blank(); 128];
+    let mut working = [MinMaxCube::blank(); 256];
+    check_sheets::<MinMaxCube>(&rt, &mut table, &mut working);
 }

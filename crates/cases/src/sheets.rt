@@ -1,5 +1,6 @@
 // Texts that a read takes or refuses.
 use crate::calls::{check_said, padded, read};
+use crate::notations::{MinMaxCube, PositionalCube};
 use cube::notation::CubeNotation;
 use std::alloc::{AllocError, Global};
 use std::process::Abort;
@@ -151,16 +152,16 @@ fn check_sheets<C: CubeNotation>(rt: &impl Abort, table: &mut [C], working: &mut
 
 #[test]
 fn positional_sheets_are_taken_or_refused(rt: HostRuntime) {
-    let mut table = [<positional::PositionalCube as CubeNotation>::blank(); 128];
-    let mut working = [<positional::PositionalCube as CubeNotation>::blank(); 256];
-    check_sheets::<positional::PositionalCube>(&rt, &mut table, &mut working);
+    let mut table = [PositionalCube::blank(); 128];
+    let mut working = [PositionalCube::blank(); 256];
+    check_sheets::<PositionalCube>(&rt, &mut table, &mut working);
 }
 
 #[test]
 fn min_max_sheets_are_taken_or_refused(rt: HostRuntime) {
-    let mut table = [<min_max::MinMaxCube as CubeNotation>::blank(); 128];
-    let mut working = [<min_max::MinMaxCube as CubeNotation>::blank(); 256];
-    check_sheets::<min_max::MinMaxCube>(&rt, &mut table, &mut working);
+    let mut table = [MinMaxCube::blank(); 128];
+    let mut working = [MinMaxCube::blank(); 256];
+    check_sheets::<MinMaxCube>(&rt, &mut table, &mut working);
 }
 
 // The same of a long text, with tables of any lengths.
@@ -172,9 +173,9 @@ fn long_verdict(
     length: usize,
 ) -> Result<(u8, usize), AllocError> {
     let text = padded(heap, b' ', text, length)?;
-    let mut table = vec![in heap; <positional::PositionalCube as CubeNotation>::blank(); cubes]?;
-    let mut working = vec![in heap; <positional::PositionalCube as CubeNotation>::blank(); room]?;
-    Ok(verdict::<positional::PositionalCube>(&text, &mut table, &mut working))
+    let mut table = vec![in heap; PositionalCube::blank(); cubes]?;
+    let mut working = vec![in heap; PositionalCube::blank(); room]?;
+    Ok(verdict::<PositionalCube>(&text, &mut table, &mut working))
 }
 
 #[test]

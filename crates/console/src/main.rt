@@ -3,6 +3,7 @@
 
 use command::files::Files;
 use cube::notation::CubeNotation;
+use positional::PositionalCube;
 use session::line::MOST_SHEET_BYTES;
 use session::page::PAGE_BYTES;
 use session::run::{MOST_COMMAND_BYTES, run_text};
@@ -61,19 +62,10 @@ fn main(rt: HostRuntime) -> anyhow::Result<()> {
         None => Vec::new(heap),
     };
     let files = read_files(&rt)?;
-    let mut table =
-        vec![in heap; <positional::PositionalCube as CubeNotation>::blank(); REGISTER_CUBES]?;
-    let mut working =
-        vec![in heap; <positional::PositionalCube as CubeNotation>::blank(); WORKING_CUBES]?;
+    let mut table = vec![in heap; PositionalCube::blank(); REGISTER_CUBES]?;
+    let mut working = vec![in heap; PositionalCube::blank(); WORKING_CUBES]?;
     let mut page = vec![in heap; 0u8; PAGE_BYTES]?;
-    let run = run_text::<positional::PositionalCube>(
-        heap,
-        &text,
-        &files,
-        &mut table,
-        &mut working,
-        &mut page,
-    )?;
+    let run = run_text::<PositionalCube>(heap, &text, &files, &mut table, &mut working, &mut page)?;
     rt.stdout().write_all(&run.output)?;
     Ok(())
 }
