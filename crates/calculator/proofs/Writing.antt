@@ -2,7 +2,6 @@
 use Rattle.std.proofs.Common.{◌≡◌, ℕ, ◌+◌, ◌-◌, ◌*◌, ◌<◌, ◌≤◌, List, map, length, get_or, take, drop, Ok, Err, Result, sym, refl, ap, ◌∙◌, subst, arith}
 use Rattle.std.proofs.lemmas.List.{length-take, take_at, drop_at, take-map, drop-map}
 use Rattle.cube.specs.declared.refusal.Refusal.{Refusal}
-use Rattle.cube.specs.Refusals.{fault, fault_of}
 use Rattle.cube.specs.Slots.{Cube, Cover, blank_above}
 use Rattle.sheet.specs.Writing.{write_sheet, Writes, Exact}
 use Rattle.life.specs.Call.{event}

@@ -1,5 +1,5 @@
 -- What a list of events, the latest first, defines for each register, and the lives of a calculator.
-use Rattle.std.specs.Prelude.{◌≡◌, ℕ, Bool, true, false, cond, ◌&&◌, List, [], ◌∷◌, Some, None, Option, ◌==◌}
+use Rattle.std.specs.Prelude.{ℕ, Bool, true, false, cond, ◌&&◌, List, [], ◌∷◌, Some, None, Option, ◌==◌}
 use Rattle.cube.specs.Says.{Truth}
 use Rattle.cube.specs.Slots.{Cover}
 use Rattle.life.specs.Call.{Call, Event, Outcome, Given, Stage, fills, makes, spells, leads, Numbered, Allowed}

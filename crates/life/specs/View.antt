@@ -1,5 +1,5 @@
 -- What a calculator and its register table hold, free of the notation of the cubes, and one call.
-use Rattle.std.specs.Prelude.{◌≡◌, ℕ, ◌+◌, ◌*◌, ◌≤◌, List, [], ◌∷◌, ◌++◌, map, length, take, drop, replicate, Some, None, Option, slice_index_or, slice_set}
+use Rattle.std.specs.Prelude.{◌≡◌, ℕ, ◌+◌, ◌*◌, ◌≤◌, List, ◌++◌, map, length, take, drop, replicate, Some, None, Option, slice_index_or, slice_set}
 use Rattle.cube.specs.Refusals.{Fault}
 use Rattle.cube.specs.Slots.{Cover, blank_above}
 use Rattle.life.specs.Call.{Event, Outcome, Answer, Given, Stage, fills, makes, leads, Answers}

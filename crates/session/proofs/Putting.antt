@@ -1,9 +1,7 @@
 -- What is put into the bytes given, from what the calls leave there.
-use Rattle.std.proofs.Common.{◌≡◌, ℕ, ◌<◌, ◌≤◌, List, [], ◌++◌, length, take, drop, Some, None, Option, sym, refl, ap, ◌∙◌, arith}
+use Rattle.std.proofs.Common.{◌≡◌, ℕ, ◌≤◌, List, [], ◌++◌, length, take, drop, sym, refl, ap, ◌∙◌, arith}
 use Rattle.std.proofs.lemmas.List.{length-take-le, take-append-drop}
-use Rattle.cube.specs.declared.refusal.Refusal.{Refusal}
-use Rattle.cube.specs.Refusals.{fault, fault_of}
-use Rattle.command.specs.Output.{Put, TooLong}
+use Rattle.command.specs.Output.{Put}
 
 -- nothing was printed
 pub put_none : (out : List ℕ) → Put [] out 0 out

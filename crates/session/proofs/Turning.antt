@@ -1,25 +1,23 @@
 -- A line that was run, from what the calls that it made have shown.
-use Rattle.std.proofs.Common.{◌≡◌, ℕ, ◌<◌, ◌≤◌, Bool, true, false, cond, eqb, List, [], ◌∷◌, length, take, drop, Some, None, Ok, Err, Option, Result, sym, refl, ap, ◌∙◌, subst, arith, ltb-true, eq-eqb}
+use Rattle.std.proofs.Common.{◌≡◌, ℕ, ◌<◌, ◌≤◌, Bool, true, false, cond, eqb, List, [], ◌∷◌, length, take, drop, Some, None, Ok, Err, Option, Result, sym, refl, ap, subst, arith, ltb-true, eq-eqb}
 use Rattle.cube.specs.declared.refusal.Refusal.{Refusal}
 use Rattle.cube.specs.Refusals.{Fault, fault, fault_of}
 use Rattle.sheet.specs.Writing.{write_sheet}
-use Rattle.life.specs.Call.{Event, event, Outcome}
+use Rattle.life.specs.Call.{event}
 use Rattle.life.specs.Call.Call.{read as reading, write as writing}
 use Rattle.life.specs.Call.Source.{sheet}
 use Rattle.life.specs.Call.Answer.{done, text}
 use Rattle.life.specs.Call.Outcome.{refused, accepted}
 use Rattle.life.specs.View.{View, operand, Stepped}
-use Rattle.calculator.specs.declared.calculator.Calculator.{Calculator}
 use Rattle.command.specs.declared.report.Layer.{Layer}
-use Rattle.command.specs.declared.report.Layer.TheVariants.{Sheet, Command, Calculator as Caller}
+use Rattle.command.specs.declared.report.Layer.TheVariants.{Sheet, Command}
 use Rattle.command.specs.Asked.{asked_on}
 use Rattle.command.specs.Asked.Asked.{read, print, quit}
 use Rattle.command.specs.Lines.{Line}
-use Rattle.command.specs.Output.{Put, TooLong}
 use Rattle.command.specs.Report.{report, layer_of}
 use Rattle.session.specs.declared.failure.Failure.{Failure}
 use Rattle.session.specs.declared.failure.Failure.TheVariants.{Refused}
-use Rattle.session.specs.Run.{Status, Setting, Turned, text_of_write}
+use Rattle.session.specs.Run.{Setting, text_of_write}
 use Rattle.session.specs.Run.Status.{running, over}
 use Rattle.session.specs.Run.Turned.{idle_running, refused_line, quits, no_file, large_file, reads, writes}
 use Rattle.session.specs.Seen.{Into, LineRan}

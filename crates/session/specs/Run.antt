@@ -7,7 +7,6 @@ use Rattle.sheet.specs.Writing.{write_sheet}
 use Rattle.life.specs.Call.{Event, event, Outcome}
 use Rattle.life.specs.Call.Call.{read as reading, write as writing}
 use Rattle.life.specs.Call.Source.{sheet}
-use Rattle.life.specs.Call.Answer.{done, text}
 use Rattle.life.specs.Call.Outcome.{refused, accepted}
 use Rattle.life.specs.View.{View, New, Stepped, operand}
 use Rattle.life.specs.History.{Lived}

@@ -1,21 +1,18 @@
 -- How the values of the code are seen in a run.
-use Rattle.std.specs.Prelude.{◌≡◌, ℕ, ◌<◌, ◌≤◌, cond, List, map, length, Some, None, Ok, Err, vec_items, Option, Result}
-use Rattle.cube.specs.Refusals.{fault}
+use Rattle.std.specs.Prelude.{◌≡◌, ℕ, cond, List, Some, None, Ok, Err, Option, Result}
 use Rattle.cube.specs.Slots.{Cover}
 use Rattle.calculator.specs.declared.calculator.Calculator.{Calculator}
 use Rattle.calculator.specs.Seen.{view}
 use Rattle.command.specs.declared.files.Files.{Files}
-use Rattle.command.specs.declared.report.Layer.TheVariants.{Command}
 use Rattle.command.specs.Files.{file_of}
-use Rattle.command.specs.Lines.{Line, lines_of}
+use Rattle.command.specs.Lines.{Line}
 use Rattle.command.specs.Output.{Puts}
-use Rattle.command.specs.Report.{report}
 use Rattle.life.specs.Call.{Event}
 use Rattle.session.specs.declared.failure.Failure.{Failure}
 use Rattle.session.specs.declared.failure.Failure.TheVariants.{Refused, OutOfMemory}
 use Rattle.session.specs.declared.line.Turn.{Turn}
 use Rattle.life.specs.View.{View}
-use Rattle.session.specs.Run.{Status, Setting, Turned, Ran, Alive}
+use Rattle.session.specs.Run.{Status, Setting, Turned}
 use Rattle.session.specs.Run.Status.{waiting, running, over}
 
 abbrev pub setting : Files → Cover → ℕ → ℕ → Setting

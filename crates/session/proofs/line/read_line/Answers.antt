@@ -1,8 +1,6 @@
-use Rattle.std.proofs.Common.{◌≡◌, map, length, sym, refl, ap, ◌∙◌, arith}
+use Rattle.std.proofs.Common.{sym, ap, ◌∙◌, arith}
 use Rattle.cube.specs.Refusals.{fault_of}
-use Rattle.calculator.specs.Seen.{view}
 use Rattle.command.specs.Files.{lent}
-use Rattle.session.specs.Seen.{setting}
 use Rattle.session.proofs.Turning.{file_missing, file_large, read_refused, read_done}
 use Rattle.session.proofs.line.read_line.Goals as goal
 

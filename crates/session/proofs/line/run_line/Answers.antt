@@ -1,10 +1,10 @@
-use Rattle.std.proofs.Common.{◌≡◌, map, length, Ok, sym, refl, ap, ◌∙◌, subst}
+use Rattle.std.proofs.Common.{map, length, Ok, sym, refl, ap, ◌∙◌, subst}
 use Rattle.cube.specs.Refusals.{fault_of}
 use Rattle.calculator.specs.Seen.{view}
 use Rattle.command.specs.Asked.{parsed}
 use Rattle.command.specs.Cut.{line_of}
 use Rattle.session.specs.Run.Status.{running}
-use Rattle.session.specs.Seen.{LineRan, setting, printed_of, status_after}
+use Rattle.session.specs.Seen.{LineRan, setting, printed_of}
 use Rattle.session.proofs.Turning.{line_idle, command_refused}
 use Rattle.session.proofs.line.run_line.Goals as goal
 

@@ -1,4 +1,4 @@
-use Rattle.std.proofs.Common.{◌≡◌, ℕ, ◌+◌, ◌*◌, ◌<◌, ◌≤◌, map, length, get_or, take, Ok, Err, sym, refl, ap, ◌∙◌, subst, inl, inr, arith, rules}
+use Rattle.std.proofs.Common.{◌≡◌, ◌+◌, ◌*◌, ◌≤◌, map, length, take, Err, sym, refl, ap, ◌∙◌, subst, arith}
 use lib.ListN.{length-map}
 use Rattle.std.proofs.lemmas.List.{length-take-le}
 use Rattle.std.proofs.lemmas.Result.{err_from_is_err_and}
@@ -8,7 +8,7 @@ use Rattle.life.specs.Call.Call.{read}
 use Rattle.life.specs.Call.Source.{sheet}
 use Rattle.life.specs.Call.Outcome.{refused}
 use Rattle.life.specs.Call.Stage.{free}
-use Rattle.life.specs.View.{Stepped, given, of_count}
+use Rattle.life.specs.View.{Stepped, given}
 use Rattle.life.specs.Cause.{LongTables}
 use Rattle.life.proofs.Lawful.{goes_on}
 use Rattle.life.proofs.Ends.{read_table_short, read_working_short, read_at_fault, read_taken}

@@ -1,7 +1,5 @@
-use Rattle.std.proofs.Common.{◌≡◌, ℕ, ◌+◌, ◌-◌, ◌*◌, ◌≤◌, map, length, take, drop, refl, ◌∙◌, arith, rules}
+use Rattle.std.proofs.Common.{◌+◌, ◌-◌, ◌*◌, ◌≤◌, map, length, take, drop, refl, arith}
 use lib.ListN.{length-map}
-use Rattle.cube.specs.Refusals.{fault}
-use Rattle.cube.specs.Slots.{blank_above}
 use Rattle.life.proofs.Lawful.{goes_on}
 use Rattle.life.proofs.Ends.{write_table_short}
 use Rattle.calculator.specs.Seen.{view}
