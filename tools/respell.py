@@ -4,7 +4,7 @@
 usage: python3 tools/respell.py [FOLDER]    FOLDER is the top of a checkout on which the kit's port.py ran; this checkout without it
 
 - A name with dashes becomes snake case, and upper camel case where it begins with a capital (a fact or a type). The table of names is respelled.tsv beside this script.
-- It turns whole words alone, in proofs and definitions (.antt), in clauses and ghost items of sources (.rt), in the edits (.edit) and in code spans and bold words of README.md and docs/.
+- It turns whole words alone, in proofs and definitions (.antt), in clauses and ghost items of sources (.rt), in the edits (.edit) and in code spans of README.md and docs/.
 A second run writes nothing more.
 """
 
@@ -15,7 +15,7 @@ import sys
 HERE = os.path.dirname(os.path.realpath(__file__))
 WORD = re.compile(r'[^\s(){}.;,@"«»:`\[\]]+')
 STRING = re.compile(r'b?"(?:[^"\\\n]|\\.)*"')
-SPAN = re.compile(r"`[^`\n]*`|\*\*[^*\n]*\*\*")
+SPAN = re.compile(r"`[^`\n]*`")
 
 
 def table():

@@ -97,14 +97,13 @@ fn check_written<C: CubeNotation>(
     table: &[C],
     written: &str,
     row: &str,
-) -> Result<(), Fail> {
+) {
     let mut out = [0; 64];
     match write(calculator, 3, table, &mut out) {
         Ok(length) => {
             assert_eq!(rt; &out[..length.min(64)], written.as_bytes(), "{}", row);
-            Ok(())
         }
-        Err(_) => Err(Fail::new("the write was refused")),
+        Err(_) => panic!(rt; "the write was refused: {}", row),
     }
 }
 
@@ -119,7 +118,7 @@ fn any_word_is_a_cube(rt: HostRuntime) -> Result<(), Fail> {
     for &(word, written) in &WORDS {
         let mut table = [PositionalCube::blank(); 128];
         table[12] = PositionalCube::from_word(word);
-        check_written::<PositionalCube>(&rt, &mut calculator, &table, written, written)?;
+        check_written::<PositionalCube>(&rt, &mut calculator, &table, written, written);
     }
     Ok(())
 }
@@ -134,7 +133,7 @@ fn any_pair_is_a_cube(rt: HostRuntime) -> Result<(), Fail> {
     for &(min, max, written) in &PAIRS {
         let mut table = [MinMaxCube::blank(); 128];
         table[12] = MinMaxCube::from_bounds(min, max);
-        check_written::<MinMaxCube>(&rt, &mut calculator, &table, written, written)?;
+        check_written::<MinMaxCube>(&rt, &mut calculator, &table, written, written);
     }
     Ok(())
 }
@@ -179,7 +178,7 @@ fn reads_change_their_own_places_alone(rt: HostRuntime) -> Result<(), Fail> {
             return Err(Fail::new("the read was refused"));
         };
         assert_eq!(rt; unmarked(&table), (first, count), "{}", text);
-        check_written::<PositionalCube>(&rt, &mut calculator, &table, after, text)?;
+        check_written::<PositionalCube>(&rt, &mut calculator, &table, after, text);
     }
     Ok(())
 }

@@ -9,7 +9,7 @@ use session::page::PAGE_BYTES;
 use session::run::{MOST_COMMAND_BYTES, run_text};
 use std::alloc::{AllocError, Global};
 use std::fs;
-use std::io::{Read, Write};
+use std::io::{self, Read, Write};
 
 const REGISTERS: u8 = 32;
 
@@ -55,7 +55,7 @@ fn read_files(rt: &HostRuntime) -> Result<Files, AllocError> {
     Ok(Files { sheets })
 }
 
-fn main(rt: HostRuntime) -> anyhow::Result<()> {
+fn main(rt: HostRuntime) -> io::Result<()> {
     let heap = rt.alloc();
     let text = match read_some(heap, &mut rt.stdin(), MOST_COMMAND_BYTES)? {
         Some(bytes) => bytes,
