@@ -1,5 +1,5 @@
 // The records of the 32 registers.
-ghost use Rattle.std.specs.Prelude.{◌≡◌, get_or, replicate, slice_index_or, slice_set};
+ghost use Rattle.std.specs.Prelude.{◌≡◌, replicate, slice_index_or, slice_set};
 ghost use Rattle.life.specs.View.{of_count};
 ghost use Rattle.calculator.specs.Records.{registers_of};
 
@@ -49,7 +49,7 @@ impl Registers {
 
     /// How many cubes register k holds.
     pub fn count(&self, k: RegisterNumber) -> u16
-        ensures { result ≡ (get_or (registers_of self.now) k.number (of_count 0)).count }
+        ensures { result ≡ (slice_index_or (registers_of self.now) k.number (of_count 0)).count }
     {
         self.records[k.number() as usize].count()
     }

@@ -30,5 +30,6 @@ pub trait CubeNotation: Copy {
     fn says(self, state: u32) -> bool
         ensures { result ≡ says_yes (slots self) state };
 
+    /// A law, which each notation proves: there are twenty.
     ghost twenty: { (c : Self) → length (slots c) ≡ 20 };
 }

@@ -50,7 +50,7 @@ fn past_digits(text: &[u8], start: usize, first: usize, from: usize) -> usize
 
 // The place of the first digit of the number that begins at `start`.
 fn first_digit(text: &[u8], start: usize) -> Result<usize, Refusal>
-    requires { (start < length text.now) × (((kind (slice_index text.now start) ≢ Separator)) × ((kind (slice_index text.now start) ≢ LineFeed))) }
+    requires { (start < length text.now) × ((kind (slice_index text.now start) ≢ Separator) × (kind (slice_index text.now start) ≢ LineFeed)) }
     ensures { MatchResult result (λ first. Opens text.now start first) (λ f. tokens_from text.now start ≡ bad (fault_of f).number (fault_of f).offset) }
 {
     match kind_of(text[start]) {
