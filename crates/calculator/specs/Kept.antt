@@ -15,7 +15,7 @@ pub record Elsewhere {C : Type 0} (start count : ℕ) (before after : List C) : 
 
 -- a call that fills register k: refused, it changes nothing; accepted, it writes only the places that the register then holds
 abbrev pub Fills : {X C : Type 0} → ℕ → Result X Refusal → Calculator → List C → Calculator → List C → Type 0
-Fills k (Ok x) c table c' table' = (c'.shape ≡ c.shape) × Elsewhere (k * c.shape.places) (count_of c' k) table table'
+Fills k (Ok x) c table c' table' = (c'.shape ≡ c.shape) × Elsewhere (k * c.shape.places.value) (count_of c' k) table table'
 Fills k (Err f) c table c' table' = (c' ≡ c) × (table' ≡ table)
 
 -- a call that writes a text of k bytes: the calculator stays; refused, so do the bytes; accepted, so do those past the text

@@ -12,7 +12,7 @@ use Rattle.life.specs.Call.Stage.{free}
 use Rattle.life.specs.View.{View}
 
 abbrev pub view : Calculator → Cover → View
-view c cells = record { n = c.shape.variables; places = c.shape.places; registers = registers_of c.registers; cells = cells; stage = free }
+view c cells = record { n = c.shape.variables.value; places = c.shape.places.value; registers = registers_of c.registers; cells = cells; stage = free }
 
 abbrev pub done_outcome : {X : Type 0} → Result X Refusal → Outcome
 done_outcome (Ok x) = accepted done

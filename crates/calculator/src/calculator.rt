@@ -13,5 +13,5 @@ pub mod calls;
 pub struct Calculator {
     shape: Shape,
     registers: Registers,
-    ghost within: { (k : ℕ) → (slice_index_or (registers_of registers) k (of_count 0)).count ≤ shape.places },
+    ghost within: { (k : ℕ) → (slice_index_or (registers_of registers) k (of_count 0)).count ≤ shape.places.value },
 }

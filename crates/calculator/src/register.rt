@@ -3,31 +3,32 @@ ghost use Rattle.std.specs.Prelude.{◌≡◌, ◌<◌, pos, MatchResult};
 ghost use Rattle.cube.specs.Ranges.{Outside};
 ghost use Rattle.cube.specs.Refusals.{fault, fault_of};
 
+use cube::ranged::Ranged;
 use cube::refusal::Refusal;
 
 #[derive(Clone, Copy, PartialEq, Eq, Debug)]
 pub struct RegisterNumber {
-    number: u8,
-    ghost below: { number < 32 },
+    number: Ranged<0, 31>,
+}
+
+/// The register of this number; refused where there is none.
+impl TryFrom<i32> for RegisterNumber {
+    type Error = Refusal;
+
+    ghost try_from_gives = { λ number result. MatchResult result (λ k. pos k.number.value ≡ number)
+        (λ e. (fault_of e ≡ fault 1 0) × Outside 0 31 number) };
+
+    fn try_from(number: i32) -> Result<RegisterNumber, Refusal> {
+        let number = Ranged::new(number).ok_or(Refusal::NoSuchRegister)?;
+        Ok(RegisterNumber { number })
+    }
 }
 
 impl RegisterNumber {
-    /// The register of this number; refused where there is none.
-    pub fn new(number: i32) -> Result<RegisterNumber, Refusal>
-        ensures { MatchResult result (λ k. pos k.number ≡ number) (λ e. (fault_of e ≡ fault 1 0) × Outside 0 31 number) }
-    {
-        if number < 0 || number > 31 {
-            return Err(Refusal::NoSuchRegister);
-        }
-        Ok(RegisterNumber {
-            number: number as u8,
-        })
-    }
-
     pub fn number(self) -> u8
-        ensures value { result ≡ self.number }
+        ensures value { result ≡ self.number.value }
         ensures within { result < 32 }
     {
-        self.number
+        self.number.get() as u8
     }
 }

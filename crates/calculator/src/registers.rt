@@ -49,15 +49,15 @@ impl Registers {
 
     /// How many cubes register k holds.
     pub fn count(&self, k: RegisterNumber) -> u16
-        ensures { result ≡ (slice_index_or (registers_of self.now) k.number (of_count 0)).count }
+        ensures { result ≡ (slice_index_or (registers_of self.now) k.number.value (of_count 0)).count }
     {
         self.records[k.number() as usize].count()
     }
 
     /// Register k holds so many cubes from now on; its record is lent to be updated.
     pub fn hold(&mut self, k: RegisterNumber, count: u16)
-        ensures records { registers_of self.new ≡ slice_set (registers_of self.old) k.number (of_count count) }
-        ensures held { slice_index_or (registers_of self.new) k.number (of_count 0) ≡ of_count count }
+        ensures records { registers_of self.new ≡ slice_set (registers_of self.old) k.number.value (of_count count) }
+        ensures held { slice_index_or (registers_of self.new) k.number.value (of_count 0) ≡ of_count count }
     {
         self.records[k.number() as usize].hold(count);
     }

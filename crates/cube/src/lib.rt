@@ -2,6 +2,7 @@
 #![tactic(auto)]
 
 pub mod notation;
+pub mod ranged;
 pub mod refusal;
 pub mod shape;
 pub mod slot;

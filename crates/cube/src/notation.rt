@@ -16,10 +16,10 @@ pub trait CubeNotation: Copy {
         ensures { slots result ≡ blank_cube };
 
     fn slot(self, i: VariableNumber) -> Slot
-        ensures { result ≡ slot_at (slots self) i.number };
+        ensures { result ≡ slot_at (slots self) i.number.value };
 
     fn set(self, i: VariableNumber, value: Slot) -> Self
-        ensures { slots result ≡ with_slot (slots self) i.number value };
+        ensures { slots result ≡ with_slot (slots self) i.number.value value };
 
     fn meet(self, other: Self) -> Option<Self>
         ensures { option_map slots result ≡ cube_meet (slots self) (slots other) };

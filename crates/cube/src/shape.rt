@@ -3,44 +3,37 @@ ghost use Rattle.std.specs.Prelude.{◌≡◌, ◌≤◌, ◌⊎◌, pos, MatchR
 ghost use Rattle.cube.specs.Ranges.{Outside};
 ghost use Rattle.cube.specs.Refusals.{fault, fault_of};
 
+use crate::ranged::Ranged;
 use crate::refusal::Refusal;
 
 #[derive(Clone, Copy, PartialEq, Eq, Debug)]
 pub struct Shape {
-    variables: u8,
-    places: u16,
-    ghost some_variables: { 1 ≤ variables },
-    ghost few_variables: { variables ≤ 20 },
-    ghost some_places: { 1 ≤ places },
-    ghost few_places: { places ≤ 256 },
+    variables: Ranged<1, 20>,
+    places: Ranged<1, 256>,
 }
 
 impl Shape {
     /// The shape of 1 to 20 variables and 1 to 256 places; refused where one is beyond its range.
     pub fn new(variables: i32, places: i32) -> Result<Shape, Refusal>
-        ensures { MatchResult result (λ s. (pos s.variables ≡ variables) × (pos s.places ≡ places))
+        ensures { MatchResult result (λ s. (pos s.variables.value ≡ variables) × (pos s.places.value ≡ places))
             (λ e. (fault_of e ≡ fault 3 0) × (Outside 1 20 variables ⊎ Outside 1 256 places)) }
     {
-        if variables < 1 || variables > 20 || places < 1 || places > 256 {
-            return Err(Refusal::ShapeBeyondRange);
-        }
-        Ok(Shape {
-            variables: variables as u8,
-            places: places as u16,
-        })
+        let variables = Ranged::new(variables).ok_or(Refusal::ShapeBeyondRange)?;
+        let places = Ranged::new(places).ok_or(Refusal::ShapeBeyondRange)?;
+        Ok(Shape { variables, places })
     }
 
     pub fn variables(self) -> u8
-        ensures value { result ≡ self.variables }
+        ensures value { result ≡ self.variables.value }
         ensures within { (1 ≤ result) × (result ≤ 20) }
     {
-        self.variables
+        self.variables.get() as u8
     }
 
     pub fn places(self) -> u16
-        ensures value { result ≡ self.places }
+        ensures value { result ≡ self.places.value }
         ensures within { (1 ≤ result) × (result ≤ 256) }
     {
-        self.places
+        self.places.get()
     }
 }

@@ -83,7 +83,7 @@ impl CubeNotation for MinMaxCube {
 
     fn set(self, i: VariableNumber, value: Slot) -> MinMaxCube
         ensures means { pair_slots 20 result.min result.max
-            ≡ with_slot (pair_slots 20 self.min self.max) i.number value }
+            ≡ with_slot (pair_slots 20 self.min self.max) i.number.value value }
         ensures proper { ProperPair 20 self.min self.max → ProperPair 20 result.min result.max }
     {
         let k = i.number() - 1;

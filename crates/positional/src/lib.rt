@@ -105,7 +105,7 @@ impl CubeNotation for PositionalCube {
 
     fn set(self, i: VariableNumber, value: Slot) -> PositionalCube
         ensures means { word_slots 20 result.word
-            ≡ with_slot (word_slots 20 self.word) i.number value }
+            ≡ with_slot (word_slots 20 self.word) i.number.value value }
         ensures proper { ProperWord 20 self.word → ProperWord 20 result.word }
     {
         let k = 2 * (i.number() - 1);

@@ -40,9 +40,9 @@ impl Calculator {
         table: &mut [C],
         working: &mut [C],
     ) -> Result<(), Refusal>
-        ensures step { Stepped (view self.old (map C.slots table.old)) (event (reading k.number (sheet_of text.now)) (length working.old) (done_outcome result)) (view self.new (map C.slots table.new)) }
-        ensures kept { Fills k.number result self.old table.old self.new table.new }
-        ensures law { Goes (view self.old (map C.slots table.old)) (event (reading k.number (sheet_of text.now)) (length working.old) (done_outcome result)) (view self.new (map C.slots table.new)) }
+        ensures step { Stepped (view self.old (map C.slots table.old)) (event (reading k.number.value (sheet_of text.now)) (length working.old) (done_outcome result)) (view self.new (map C.slots table.new)) }
+        ensures kept { Fills k.number.value result self.old table.old self.new table.new }
+        ensures law { Goes (view self.old (map C.slots table.old)) (event (reading k.number.value (sheet_of text.now)) (length working.old) (done_outcome result)) (view self.new (map C.slots table.new)) }
     {
         let places = self.shape.places() as usize;
         if table.len() < 32 * places || working.len() < 64 * places {
@@ -60,9 +60,9 @@ impl Calculator {
         table: &[C],
         out: &mut [u8],
     ) -> Result<usize, Refusal>
-        ensures step { Stepped (view self.old (map C.slots table.now)) (event (writing a.number (length out.old)) 0 (text_outcome result out.new)) (view self.new (map C.slots table.now)) }
+        ensures step { Stepped (view self.old (map C.slots table.now)) (event (writing a.number.value (length out.old)) 0 (text_outcome result out.new)) (view self.new (map C.slots table.now)) }
         ensures kept { Put result self.old out.old self.new out.new }
-        ensures law { Goes (view self.old (map C.slots table.now)) (event (writing a.number (length out.old)) 0 (text_outcome result out.new)) (view self.new (map C.slots table.now)) }
+        ensures law { Goes (view self.old (map C.slots table.now)) (event (writing a.number.value (length out.old)) 0 (text_outcome result out.new)) (view self.new (map C.slots table.now)) }
     {
         let places = self.shape.places() as usize;
         if table.len() < 32 * places {
@@ -81,13 +81,13 @@ impl Calculator {
         table: &mut [C],
         working: &[C],
     )
-        requires few { count ≤ self.old.shape.places }
-        requires roomy { 32 * self.old.shape.places ≤ length table.old }
+        requires few { count ≤ self.old.shape.places.value }
+        requires roomy { 32 * self.old.shape.places.value ≤ length table.old }
         requires enough { count ≤ length working.now }
         ensures shape { self.new.shape ≡ self.old.shape }
-        ensures cells { table.new ≡ written table.old (k.number * self.old.shape.places) (take count working.now) }
-        ensures held { count_of self.new k.number ≡ count }
-        ensures records { registers_of self.new.registers ≡ slice_set (registers_of self.old.registers) k.number (of_count count) }
+        ensures cells { table.new ≡ written table.old (k.number.value * self.old.shape.places.value) (take count working.now) }
+        ensures held { count_of self.new k.number.value ≡ count }
+        ensures records { registers_of self.new.registers ≡ slice_set (registers_of self.old.registers) k.number.value (of_count count) }
     {
         let start = k.number() as usize * self.shape.places() as usize;
         carry(working, &mut table[start..], count);

@@ -1,0 +1,43 @@
+// Numbers within a range that their type names.
+ghost use Rattle.std.specs.Prelude.{◌≡◌, ◌<◌, ◌≤◌, max, min, pos, MatchOption};
+ghost use Rattle.cube.specs.Ranges.{Outside};
+
+/// A whole number from LOW to HIGH.
+#[derive(Clone, Copy, PartialEq, Eq, Debug)]
+pub struct Ranged<const LOW: u16, const HIGH: u16> {
+    value: u16,
+    ghost low: { LOW ≤ value },
+    ghost high: { value ≤ HIGH },
+}
+
+impl<const LOW: u16, const HIGH: u16> Ranged<LOW, HIGH> {
+    /// This number, if it is within the range.
+    pub fn new(value: i32) -> Option<Self>
+        ensures { MatchOption result (Outside LOW HIGH value) (λ r. pos r.value ≡ value) }
+    {
+        if value < LOW as i32 || value > HIGH as i32 {
+            return None;
+        }
+        Some(Ranged {
+            value: value as u16,
+        })
+    }
+
+    /// The number of the range that is nearest to this one.
+    // Only a range with a number in it has a nearest one, and each caller here names its range.
+    pub(crate) fn nearest(value: u32) -> Self
+        requires { LOW ≤ HIGH }
+        ensures { result.value ≡ max LOW (min value HIGH) }
+    {
+        Ranged {
+            value: value.clamp(LOW as u32, HIGH as u32) as u16,
+        }
+    }
+
+    pub fn get(self) -> u16
+        ensures value { result ≡ self.entry.value }
+        ensures within { (LOW ≤ result) × (result ≤ HIGH) }
+    {
+        self.value
+    }
+}
