@@ -1,3 +1,4 @@
 pub mod Streams
 pub mod Overlays
 pub mod Written
+pub mod Runs

@@ -66,23 +66,17 @@ abbrev pub tokens_from : List ℕ → ℕ → Stream
 tokens_from xs p = stream between p (drop p xs)
 
 abbrev pub tok_of : Token → Tok
-tok_of (Number text at) = num text.now at
+tok_of (Number numeral at) = num numeral.text.now at
 tok_of (LineEnd at) = eol at
-
--- a number's bytes are at most six
-abbrev pub Short : Tok → Type 0
-Short (num text at) = length text ≤ 6
-Short (eol at) = Unit {0}
 
 -- the token t comes first in xs from p on, and it ends at q
 pub record Step (xs : List ℕ) (p : ℕ) (t : Tok) (q : ℕ) : Type 0 where
   pub further : p < q
   pub within : q ≤ length xs
-  pub short : Short t
   pub same : tokens_from xs p ≡ tok t (tokens_from xs q)
 
--- r is what comes first in xs from p on, and q is where it ends
-abbrev pub Next : List ℕ → ℕ → Result (Option Token) Refusal → ℕ → Type 0
-Next xs p (Ok (Some t)) q = Step xs p (tok_of t) q
-Next xs p (Ok None) q = tokens_from xs p ≡ end (length xs)
-Next xs p (Err f) q = tokens_from xs p ≡ bad (fault_of f).number (fault_of f).offset
+-- r is what comes first in xs from p on, and q is where it ends; a fault ends with the text
+abbrev pub Next : List ℕ → ℕ → Option (Result Token Refusal) → ℕ → Type 0
+Next xs p (Some (Ok t)) q = Step xs p (tok_of t) q
+Next xs p (Some (Err f)) q = (tokens_from xs p ≡ bad (fault_of f).number (fault_of f).offset) × (q ≡ length xs)
+Next xs p None q = (tokens_from xs p ≡ end (length xs)) × (q ≡ length xs)

@@ -4,4 +4,5 @@
 pub mod bytes;
 pub mod numeral;
 pub mod output;
+pub mod scan;
 pub mod tokens;

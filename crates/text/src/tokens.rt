@@ -2,19 +2,21 @@
 ghost use Rattle.std.specs.Prelude.{◌≡◌, ◌+◌, ◌-◌, ◌<◌, ◌≤◌, min, length, drop, MatchResult, ◌≢◌, slice_index};
 ghost use Rattle.cube.specs.Refusals.{fault_of};
 ghost use Rattle.text.specs.Bytes.{kind};
-ghost use Rattle.text.specs.Tokens.{stream, digits, span, tokens_from, bad, Next};
+ghost use Rattle.text.specs.Tokens.{stream, digits, span, tokens_from, bad, tok_of, Step};
 ghost use Rattle.text.specs.Scanning.{Opens, Closes};
 ghost use Rattle.text.specs.declared.bytes.Kind.TheVariants.{Separator, LineFeed, Digit};
 
-use crate::bytes::{Kind, kind_of};
+use crate::bytes::Kind;
+use crate::numeral::Numeral;
+use crate::scan::first_from;
 use cube::refusal::Refusal;
 
 const MOST_DIGITS: usize = 5;
 
-/// A number's bytes and the offset of its first, or the offset of a line feed.
+/// A number and the offset of its first byte, or the offset of a line feed.
 #[derive(Clone, Copy)]
 pub enum Token<'a> {
-    Number { text: &'a [u8], at: usize },
+    Number { numeral: Numeral<'a>, at: usize },
     LineEnd { at: usize },
 }
 
@@ -26,11 +28,7 @@ fn past_separators(text: &[u8], from: usize) -> usize
     ensures stops { result < length text.now → kind (slice_index text.now result) ≢ Separator }
     ensures same { tokens_from text.now from ≡ tokens_from text.now result }
 {
-    let mut p = from;
-    while p < text.len() && kind_of(text[p]) == Kind::Separator {
-        p += 1;
-    }
-    p
+    first_from(text, from, |b| Kind::from(b) != Kind::Separator)
 }
 
 // The first place from `from` on that holds no digit.
@@ -41,11 +39,7 @@ fn past_digits(text: &[u8], start: usize, first: usize, from: usize) -> usize
     ensures stops { result < length text.now → kind (slice_index text.now result) ≢ Digit }
     ensures same { stream (digits start first (span text.now start from)) from (drop from text.now) ≡ stream (digits start first (span text.now start result)) result (drop result text.now) }
 {
-    let mut p = from;
-    while p < text.len() && kind_of(text[p]) == Kind::Digit {
-        p += 1;
-    }
-    p
+    first_from(text, from, |b| Kind::from(b) != Kind::Digit)
 }
 
 // The place of the first digit of the number that begins at `start`.
@@ -53,10 +47,10 @@ fn first_digit(text: &[u8], start: usize) -> Result<usize, Refusal>
     requires { (start < length text.now) × ((kind (slice_index text.now start) ≢ Separator) × (kind (slice_index text.now start) ≢ LineFeed)) }
     ensures { MatchResult result (λ first. Opens text.now start first) (λ f. tokens_from text.now start ≡ bad (fault_of f).number (fault_of f).offset) }
 {
-    match kind_of(text[start]) {
+    match Kind::from(text[start]) {
         Kind::Digit => Ok(start),
         Kind::Minus => {
-            if start + 1 < text.len() && kind_of(text[start + 1]) == Kind::Digit {
+            if start + 1 < text.len() && Kind::from(text[start + 1]) == Kind::Digit {
                 Ok(start + 1)
             } else {
                 Err(Refusal::MinusWithoutDigit { at: start })
@@ -73,7 +67,7 @@ fn number_end(text: &[u8], start: usize, first: usize) -> Result<usize, Refusal>
 {
     let end = past_digits(text, start, first, first + 1);
     if end < text.len() {
-        match kind_of(text[end]) {
+        match Kind::from(text[end]) {
             Kind::Separator | Kind::LineFeed => {}
             _ => return Err(Refusal::ByteNotAllowed { at: end }),
         }
@@ -84,54 +78,74 @@ fn number_end(text: &[u8], start: usize, first: usize) -> Result<usize, Refusal>
     Ok(end)
 }
 
+// The token that begins at `start`, and where it ends.
+fn token_at(text: &[u8], start: usize) -> Result<(Token<'_>, usize), Refusal>
+    requires { (start < length text.now) × (kind (slice_index text.now start) ≢ Separator) }
+    ensures { MatchResult result (λ p. Step text.now start (tok_of p.0) p.1) (λ f. tokens_from text.now start ≡ bad (fault_of f).number (fault_of f).offset) }
+{
+    if Kind::from(text[start]) == Kind::LineFeed {
+        return Ok((Token::LineEnd { at: start }, start + 1));
+    }
+    let first = first_digit(text, start)?;
+    let end = number_end(text, start, first)?;
+    let numeral = Numeral {
+        text: &text[start..end],
+    };
+    Ok((Token::Number { numeral, at: start }, end))
+}
+
 /// A place in a text, from which on the text's tokens are read.
 #[derive(Drop)]
 pub struct Tokens<'a> {
     text: &'a [u8],
-    pos: usize,
-    ghost ok: { pos ≤ length text.now },
+    place: usize,
+    ghost within: { place ≤ length text.now },
 }
 
 impl<'a> Tokens<'a> {
     pub fn new(text: &'a [u8]) -> Self
-        ensures { (result.text.now ≡ text.now) × (result.pos ≡ 0) }
+        ensures { (result.text.now ≡ text.now) × (result.place ≡ 0) }
     {
-        Tokens { text, pos: 0 }
+        Tokens { text, place: 0 }
     }
 
-    /// From the place `pos` on, or from the end where that is beyond it; offsets count in the whole text.
-    pub fn starting_at(text: &'a [u8], pos: usize) -> Self
-        ensures { (result.text.now ≡ text.now) × (result.pos ≡ min pos (length text.now)) }
+    /// From this place on, or from the end where that is beyond it; offsets count in the whole text.
+    pub fn starting_at(text: &'a [u8], place: usize) -> Self
+        ensures { (result.text.now ≡ text.now) × (result.place ≡ min place (length text.now)) }
     {
-        let end = text.len();
-        if pos < end {
-            Tokens { text, pos }
-        } else {
-            Tokens { text, pos: end }
+        Tokens {
+            text,
+            place: place.min(text.len()),
         }
     }
+}
 
-    /// The next token, or none at the end of the text.
-    pub fn next(&mut self) -> Result<Option<Token<'a>>, Refusal>
-        ensures same { self.new.text.now ≡ self.old.text.now }
-        ensures next { Next self.old.text.now self.old.pos result self.new.pos }
-    {
+/// The tokens, or the first fault, after which none comes.
+impl<'a> Iterator for Tokens<'a> {
+    ghost use Rattle.text.specs.Reader.{Gives, bytes_left};
+
+    type Item = Result<Token<'a>, Refusal>;
+
+    ghost next_gives = { Gives };
+
+    ghost remaining = { bytes_left };
+
+    fn next(&mut self) -> Option<Result<Token<'a>, Refusal>> {
         let text = self.text;
-        let start = past_separators(text, self.pos);
-        if start >= text.len() {
-            self.pos = start;
-            return Ok(None);
+        let start = past_separators(text, self.place);
+        if start == text.len() {
+            self.place = start;
+            return None;
         }
-        if kind_of(text[start]) == Kind::LineFeed {
-            self.pos = start + 1;
-            return Ok(Some(Token::LineEnd { at: start }));
+        match token_at(text, start) {
+            Ok((token, end)) => {
+                self.place = end;
+                Some(Ok(token))
+            }
+            Err(refusal) => {
+                self.place = text.len();
+                Some(Err(refusal))
+            }
         }
-        let first = first_digit(text, start)?;
-        let end = number_end(text, start, first)?;
-        self.pos = end;
-        Ok(Some(Token::Number {
-            text: &text[start..end],
-            at: start,
-        }))
     }
 }

@@ -7,13 +7,13 @@ use Rattle.text.proofs.tokens.number_end.Goals.{Joined-end-text, then-end-text+i
 
 pub returns-in_default : goal.returns-in_default
 returns-in_default c =
-    let k = c.kind_of.ensures in
+    let k = c.from.ensures in
     c.requires.same ∙ c.past_digits-end.ensures.same ∙ digits_stray _ _ c.if-end-text.true _ _ _ (λ e. c.in_default.not-Separator (k ∙ e)) (λ e. c.in_default.not-LineFeed (k ∙ e)) (c.past_digits-end.ensures.stops c.if-end-text.true)
 
 met : (c : Joined-end-text) → tokens_from c.args.text.now c.args.start ≡ closed c.args.start c.args.first (span c.args.text.now c.args.start c.past_digits-end.result) c.past_digits-end.result (tokens_from c.args.text.now c.past_digits-end.result)
 met c =
     c.requires.same ∙ c.past_digits-end.ensures.same ∙ ends _ _ _ _ _ c.past_digits-end.ensures.within (λ lt. elim c.if-end-text.branch [
-      | then-end-text+in-Separator w ↦ let k = sym w.kind_of.ensures in ⊎_elim (λ e. inl (k ∙ e)) (λ e. inr (k ∙ e)) w.in-Separator.is
+      | then-end-text+in-Separator w ↦ let k = sym w.from.ensures in ⊎_elim (λ e. inl (k ∙ e)) (λ e. inr (k ∙ e)) w.in-Separator.is
       | else-end-text w ↦ absurd (omega (arith, w.if-end-text.false))
     ])
 

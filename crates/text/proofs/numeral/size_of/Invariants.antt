@@ -1,6 +1,0 @@
-use Rattle.std.proofs.Common.{◌≡◌, ◌^◌, ◌<◌, drop}
-use Rattle.text.specs.Numerals.{size_from}
-use Rattle.text.proofs.numeral.size_of.Given as goal
-
-abbrev pub invariant-loop-b : goal.invariant-loop-b
-invariant-loop-b l = (l.size < 10 ^ l.b-index) × (size_from l.size (drop l.b-index l.text) ≡ size_from 0 l.text)

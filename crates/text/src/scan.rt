@@ -1,0 +1,15 @@
+// Where a run of bytes ends.
+ghost use Rattle.std.specs.Prelude.{ℕ, ◌+◌, ◌<◌, ◌≤◌, min, length, true, false, slice_index};
+
+/// The first place from `from` on at whose byte `stops` says yes, or the end of the text.
+pub fn first_from<F: Fn(u8) -> bool>(text: &[u8], from: usize, stops: F) -> usize
+    requires { F.IsAlwaysCallable stops }
+    ensures after { min from (length text.now) ≤ result }
+    ensures within { result ≤ length text.now }
+    ensures stopped { result < length text.now → F.post stops (slice_index text.now result) true }
+    ensures passed { (k : ℕ) → from + k < result → F.post stops (slice_index text.now (from + k)) false }
+{
+    let start = from.min(text.len());
+    let rest = &text[start..];
+    start + rest.iter().position(|b| stops(*b)).unwrap_or(rest.len())
+}
