@@ -22,18 +22,20 @@ pub struct PositionalCube {
     word: u64,
 }
 
-impl PositionalCube {
-    /// The cube of any word; the bits beyond the twentieth field are not looked at.
-    pub fn from_word(word: u64) -> PositionalCube
-        ensures { result.word ≡ word }
-    {
+/// The cube of any word; the bits beyond the twentieth field are not looked at.
+impl From<u64> for PositionalCube {
+    ghost from_gives = { λ word result. result.word ≡ word };
+
+    fn from(word: u64) -> PositionalCube {
         PositionalCube { word }
     }
+}
 
-    pub fn word(self) -> u64
-        ensures { result ≡ self.word }
-    {
-        self.word
+impl From<PositionalCube> for u64 {
+    ghost from_gives = { λ cube result. result ≡ cube.word };
+
+    fn from(cube: PositionalCube) -> u64 {
+        cube.word
     }
 }
 
