@@ -1,13 +1,13 @@
 -- The operations on a pair of words, against the slots that they mean. Assumes nothing.
-use Rattle.std.proofs.Common.{◌≡◌, ℕ, zero, suc, ◌+◌, ◌*◌, ◌/◌, ◌%◌, ◌^◌, ◌<◌, ◌≤◌, ◌&&◌, eqb, [], ◌∷◌, get_or, set, Some, None, sym, refl, ap, ◌∙◌, subst, ap₂, le_of_suc-le-suc, not-suc-le-zero, div-one, arith}
-use lib.Bits.{bit_and, bit_or, bit_xor, and_zero_r}
+use Rattle.std.proofs.Common.{◌≡◌, ℕ, zero, suc, ◌+◌, ◌-◌, ◌*◌, ◌/◌, ◌%◌, ◌^◌, ◌<◌, ◌≤◌, ◌&&◌, eqb, [], ◌∷◌, get_or, set, Some, None, sym, refl, ap, ◌∙◌, subst, ap₂, le_of_suc-le-suc, not-suc-le-zero, div-one, arith}
+use lib.Bits.{bit_and, bit_or, bit_xor, and_zero_r, and_mask}
 use Rattle.std.proofs.lemmas.Bool.{eq-eqb, ne_eqb}
 use Rattle.cube.specs.declared.slot.Slot.TheVariants.{Blank}
 use Rattle.cube.specs.Says.{bits, slot_says, cube_says}
-use Rattle.cube.specs.Slots.{slot_covers, cube_covers, prepend, slot_meet, cube_meet}
+use Rattle.cube.specs.Slots.{slot_at, with_slot, slot_covers, cube_covers, prepend, slot_meet, cube_meet}
 use Rattle.min_max.specs.MinMax.{slot_of, pair_slots, ProperPair}
 use Rattle.cube.proofs.Meets.{only, prepend_only}
-use Rattle.cube.proofs.Digits.{ones, ones_half, ones_odd, zero_digits, and_half, or_half, xor_half, and_odd}
+use Rattle.cube.proofs.Digits.{put_code, ones, ones_half, ones_odd, zero_digits, and_half, or_half, xor_half, and_odd}
 use Rattle.cube.proofs.Digits.{or_odd, xor_odd, put, past_half, put_here_half, put_here_odd, put_later_half}
 use Rattle.cube.proofs.Digits.{put_later_odd, at_digits_2, at_digits_3, at_digits_4}
 
@@ -207,3 +207,33 @@ proper_meet (suc n) low high e =
     let last : over (m % 2) (low % 2) (high % 2) ≡ 0 = sym (over_odd m low high) ∙ ap (λ x. x % 2) e in
     let rest : over (m / 2) (low / 2) (high / 2) ≡ 0 = sym (over_half m low high) ∙ ap (λ x. x / 2) e in
     (not_over low high (rw (ones_odd n) at last), proper_meet n (low / 2) (high / 2) (rw (ones_half n) at rest))
+
+-- ---- the twenty slots, as the code spells them
+
+pub covers_code : (a A b B : ℕ) → eqb (outside 0xfffff a A b B) 0 ≡ cube_covers (pair_slots 20 a A) (pair_slots 20 b B)
+covers_code = covers_pair 20
+
+pub says_code : (a A s : ℕ) → eqb (apart 0xfffff a A s) 0 ≡ cube_says (pair_slots 20 a A) (bits 20 s)
+says_code = says_pair 20
+
+pub slot_code : (a A i : ℕ) → 1 ≤ i → i ≤ 20
+    → slot_of (bit_and (a / 2 ^ (i - 1)) 1) (bit_and (A / 2 ^ (i - 1)) 1) ≡ slot_at (pair_slots 20 a A) i
+slot_code a A i low high =
+    ap₂ slot_of (and_mask (a / 2 ^ (i - 1)) 1) (and_mask (A / 2 ^ (i - 1)) 1) ∙ slot_pair 20 (i - 1) a A (omega arith)
+
+-- the word with the digit d at i, as the code writes it
+abbrev pub with_digit : ℕ → ℕ → ℕ → ℕ
+with_digit w i d = bit_xor w ((bit_xor (bit_and (w / 2 ^ (i - 1)) 1) d * 2 ^ (i - 1)) % 2 ^ 32)
+
+pub set_code : (a A i d D : ℕ) → i ≤ 20 → d ≤ D → D < 2
+    → pair_slots 20 (with_digit a i d) (with_digit A i D) ≡ with_slot (pair_slots 20 a A) i (slot_of d D)
+set_code a A i d D high le h =
+    ap₂ (pair_slots 20) (put_code a (i - 1) d (omega arith) (omega arith)) (put_code A (i - 1) D h (omega arith))
+    ∙ set_pair 20 (i - 1) a A d D (omega arith) h
+
+pub set_stays_proper : (a A i d D : ℕ) → i ≤ 20 → d ≤ D → D < 2 → ProperPair 20 a A
+    → ProperPair 20 (with_digit a i d) (with_digit A i D)
+set_stays_proper a A i d D high le h proper =
+    let low : d < 2 = omega arith in
+    let near : i - 1 < 31 = omega arith in
+    rw (put_code a (i - 1) d low near, put_code A (i - 1) D h near) (proper_put 20 (i - 1) a A d D le h proper)

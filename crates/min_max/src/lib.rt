@@ -20,6 +20,7 @@ pub struct MinMaxCube {
 }
 
 impl MinMaxCube {
+    // Two bounds of one type: a `From` of a pair would lose their names.
     /// The cube of any pair; the bits beyond the twentieth are not looked at.
     pub fn from_bounds(min: u32, max: u32) -> MinMaxCube
         ensures { (result.min ≡ min) × (result.max ≡ max) }
@@ -40,6 +41,7 @@ impl MinMaxCube {
     }
 }
 
+// Rust lets no `From` between `Slot` and a pair of `u32`, all of elsewhere, stand here; a type for the pair would serve two calls.
 // The slot whose least value is `low` and whose greatest is `high`.
 fn slot_of(low: u32, high: u32) -> Slot
     ensures { result ≡ slot_of low high }
@@ -69,6 +71,7 @@ impl CubeNotation for MinMaxCube {
 
     ghost twenty = { unfold pair_slots in λ cube. refl };
 
+    #[tactic(auto, using(crate::proofs::Pair::proper_blank), unfolding(crate::specs::MinMax::pair_slots))]
     fn blank() -> MinMaxCube
         ensures means { pair_slots 20 result.min result.max ≡ blank_cube }
         ensures proper { ProperPair 20 result.min result.max }
@@ -76,11 +79,13 @@ impl CubeNotation for MinMaxCube {
         MinMaxCube { min: 0, max: ALL }
     }
 
+    #[tactic(auto, using(crate::proofs::Pair::slot_code))]
     fn slot(self, i: VariableNumber) -> Slot {
         let k = i.number() - 1;
         slot_of((self.min >> k) & 1, (self.max >> k) & 1)
     }
 
+    #[tactic(auto, using(crate::proofs::Pair::set_code, crate::proofs::Pair::set_stays_proper))]
     fn set(self, i: VariableNumber, value: Slot) -> MinMaxCube
         ensures means { pair_slots 20 result.min result.max
             ≡ with_slot (pair_slots 20 self.min self.max) i.number.value value }
@@ -94,6 +99,7 @@ impl CubeNotation for MinMaxCube {
         }
     }
 
+    #[tactic(auto, using(crate::proofs::Pair::meet_pair_some, crate::proofs::Pair::meet_pair_none, crate::proofs::Pair::proper_meet))]
     fn meet(self, other: MinMaxCube) -> Option<MinMaxCube>
         ensures means { option_map (λ c. pair_slots 20 c.min c.max) result
             ≡ cube_meet (pair_slots 20 self.min self.max) (pair_slots 20 other.min other.max) }
@@ -108,12 +114,14 @@ impl CubeNotation for MinMaxCube {
         }
     }
 
+    #[tactic(auto, using(crate::proofs::Pair::covers_code))]
     fn covers(self, other: MinMaxCube) -> bool {
         let below = self.min & self.max & ((other.min & other.max) ^ ALL);
         let above = (other.min | other.max) & ((self.min | self.max) ^ ALL);
         (below | above) & ALL == 0
     }
 
+    #[tactic(auto, using(crate::proofs::Pair::says_code))]
     fn says(self, state: u32) -> bool {
         let missing = self.min & self.max & (state ^ ALL);
         let extra = state & ((self.min | self.max) ^ ALL);

@@ -1,11 +1,11 @@
 -- The operations on one word of two-bit fields, against the slots that it means. Assumes nothing.
-use Rattle.std.proofs.Common.{◌≡◌, ℕ, zero, suc, ◌+◌, ◌-◌, ◌*◌, ◌/◌, ◌%◌, ◌^◌, ◌<◌, Bool, ◌&&◌, eqb, ◌∷◌, get_or, set, Some, None, sym, refl, ap, ◌∙◌, subst, ap₂, le_of_suc-le-suc, not-suc-le-zero, mul_assoc, mul-one, div-one, arith}
+use Rattle.std.proofs.Common.{◌≡◌, ℕ, zero, suc, ◌+◌, ◌-◌, ◌*◌, ◌/◌, ◌%◌, ◌^◌, ◌<◌, ◌≤◌, Bool, ◌&&◌, eqb, ◌∷◌, get_or, set, Some, None, sym, refl, ap, ◌∙◌, subst, ap₂, le_of_suc-le-suc, not-suc-le-zero, mul_assoc, mul-one, div-one, arith}
 use lib.Bits.{bit_and, bit_or, bit_xor, and_zero_r, and_mask, xor_zero_r, xor_lt}
 use Rattle.std.proofs.lemmas.Bool.{eq-eqb, ne_eqb}
 use Rattle.std.proofs.lemmas.Nat.{field_of, shl_whole, shr-shr, pow-add}
 use Rattle.cube.specs.declared.slot.Slot.TheVariants.{Blank}
 use Rattle.cube.specs.Says.{bits, slot_says, cube_says}
-use Rattle.cube.specs.Slots.{slot_covers, cube_covers, prepend, slot_meet, cube_meet}
+use Rattle.cube.specs.Slots.{slot_at, with_slot, slot_covers, cube_covers, prepend, slot_meet, cube_meet}
 use Rattle.positional.specs.Fields.{field_slot, word_slots, filled_field, filled_word, spread_word, state_pattern}
 use Rattle.positional.specs.Fields.{ProperWord}
 use Rattle.cube.proofs.Digits.{or_odd, Both, at_digit}
@@ -316,3 +316,29 @@ proper_full (suc n) w e =
     let last : full 1 (w % 4) ≡ 1 = sym (full_quad m w m4) ∙ ap (λ x. x % 4) e ∙ m4 in
     let rest : full (m / 4) (w / 4) ≡ m / 4 = sym (full_quarter m w) ∙ ap (λ x. x / 4) e in
     (some_field w last, proper_full n (w / 4) (rw mq at rest))
+
+-- ---- the twenty fields, as the code spells them
+
+pub filled_code : (w : ℕ) → bit_or (bit_and w 0xffffffffff) (bit_xor (bit_and (bit_or w (w / 2)) 0x5555555555) 0x5555555555 * 3)
+    ≡ filled_word 20 w
+filled_code w = fill_code 20 w
+
+pub spread_fits : (s : ℕ) → spread_word 20 s ≤ 0xaaaaaaaaaa
+spread_fits s = omega (arith, pattern_and_spread 20 s)
+
+pub pattern_code : (s : ℕ) → 0xaaaaaaaaaa - spread_word 20 s ≡ state_pattern 20 s
+pattern_code s = omega (arith, pattern_and_spread 20 s)
+
+pub slot_code : (w i : ℕ) → 1 ≤ i → i ≤ 20 → field_slot (bit_and (w / 2 ^ (2 * (i - 1))) 3) ≡ slot_at (word_slots 20 w) i
+slot_code w i low high = ap field_slot (and_mask (w / 2 ^ (2 * (i - 1))) 2) ∙ slot_word 20 (i - 1) w (omega arith)
+
+-- the word with the field d at i, as the code writes it
+abbrev pub with_field : ℕ → ℕ → ℕ → ℕ
+with_field w i d = bit_xor w ((bit_xor (bit_and (w / 2 ^ (2 * (i - 1))) 3) d * 2 ^ (2 * (i - 1))) % 2 ^ 64)
+
+pub set_code : (w i d : ℕ) → i ≤ 20 → d < 4 → word_slots 20 (with_field w i d) ≡ with_slot (word_slots 20 w) i (field_slot d)
+set_code w i d high h = ap (word_slots 20) (put_field_code w (i - 1) d h (omega arith)) ∙ set_word 20 (i - 1) w d h
+
+pub set_stays_proper : (w i d : ℕ) → i ≤ 20 → 0 < d → d < 4 → ProperWord 20 w → ProperWord 20 (with_field w i d)
+set_stays_proper w i d high some h proper =
+    rw (put_field_code w (i - 1) d h (omega arith)) (proper_put 20 (i - 1) w d some h proper)

@@ -40,6 +40,7 @@ impl From<PositionalCube> for u64 {
 }
 
 // The twenty fields, with 11 where one is 00.
+#[tactic(auto, using(crate::proofs::Word::filled_code))]
 fn filled(word: u64) -> u64
     ensures { result ≡ filled_word 20 word }
 {
@@ -48,6 +49,7 @@ fn filled(word: u64) -> u64
 }
 
 // The twenty low bits of a state, each the lower bit of a field.
+#[tactic(auto, using(crate::proofs::Stages::spread_code))]
 fn spread(state: u32) -> u64
     ensures { result ≡ spread_word 20 state }
 {
@@ -60,12 +62,14 @@ fn spread(state: u32) -> u64
 }
 
 // The field of each variable at a state: 10 for 0, 01 for 1.
+#[tactic(auto, using(crate::proofs::Word::spread_fits, crate::proofs::Word::pattern_code))]
 fn pattern(state: u32) -> u64
     ensures { result ≡ state_pattern 20 state }
 {
     UPPER - spread(state)
 }
 
+// Rust lets no `From` between `u64` and `Slot`, both of elsewhere, stand here; a type for a field would serve two calls.
 fn field_slot(field: u64) -> Slot
     ensures { result ≡ field_slot field }
 {
@@ -93,6 +97,7 @@ impl CubeNotation for PositionalCube {
 
     ghost twenty = { unfold word_slots in λ cube. refl };
 
+    #[tactic(auto, using(crate::proofs::Word::proper_blank), unfolding(crate::specs::Fields::word_slots))]
     fn blank() -> PositionalCube
         ensures means { word_slots 20 result.word ≡ blank_cube }
         ensures proper { ProperWord 20 result.word }
@@ -100,11 +105,13 @@ impl CubeNotation for PositionalCube {
         PositionalCube { word: ALL }
     }
 
+    #[tactic(auto, using(crate::proofs::Word::slot_code))]
     fn slot(self, i: VariableNumber) -> Slot {
         let k = 2 * (i.number() - 1);
         field_slot((self.word >> k) & 3)
     }
 
+    #[tactic(auto, using(crate::proofs::Word::set_code, crate::proofs::Word::set_stays_proper))]
     fn set(self, i: VariableNumber, value: Slot) -> PositionalCube
         ensures means { word_slots 20 result.word
             ≡ with_slot (word_slots 20 self.word) i.number.value value }
@@ -117,6 +124,7 @@ impl CubeNotation for PositionalCube {
         }
     }
 
+    #[tactic(auto, using(crate::proofs::Word::meet_word_some, crate::proofs::Word::meet_word_none, crate::proofs::Word::proper_full))]
     fn meet(self, other: PositionalCube) -> Option<PositionalCube>
         ensures means { option_map (λ c. word_slots 20 c.word) result
             ≡ cube_meet (word_slots 20 self.word) (word_slots 20 other.word) }
@@ -130,12 +138,14 @@ impl CubeNotation for PositionalCube {
         }
     }
 
+    #[tactic(auto, using(crate::proofs::Word::covers_word))]
     fn covers(self, other: PositionalCube) -> bool {
         let wide = filled(self.word);
         let narrow = filled(other.word);
         wide & narrow == narrow
     }
 
+    #[tactic(auto, using(crate::proofs::Word::says_word))]
     fn says(self, state: u32) -> bool {
         let open = filled(self.word);
         let asked = pattern(state);
