@@ -1,6 +1,9 @@
 -- Texts laid over bytes, one after another.
-use Rattle.std.proofs.Common.{◌≡◌, ℕ, zero, suc, ◌+◌, ◌≤◌, List, [], ◌∷◌, ◌++◌, length, drop, set, sym, refl, ap, ◌∙◌, subst, add-zero, arith, length-append}
-use Rattle.text.specs.Output.{overlay, Laid}
+use Rattle.std.proofs.Common.{◌≡◌, ℕ, suc, ◌+◌, ◌-◌, ◌^◌, ◌<◌, ◌≤◌, min, List, [], ◌∷◌, ◌++◌, length, drop, set, sym, refl, ap, ◌∙◌, subst, ⊎_elim, add-zero, arith, length-append}
+use Rattle.std.proofs.lemmas.Bool.{cases_lt}
+use Rattle.std.proofs.lemmas.List.{set_past}
+use Rattle.text.specs.Output.{overlay, Laid, Puts}
+use Rattle.text.specs.declared.output.Writer.{Writer}
 
 pub overlay_append : (out : List ℕ) (at : ℕ) (xs ys : List ℕ) → overlay out at (xs ++ ys) ≡ overlay (overlay out at xs) (at + length xs) ys
 overlay_append out at [] ys = rw add-zero
@@ -19,25 +22,32 @@ overlay_fits out [] h = refl
 overlay_fits [] (b ∷ text) h = absurd (omega arith)
 overlay_fits (o ∷ out) (b ∷ text) h = overlay_under b out 0 text ∙ ap (λ l. b ∷ l) (overlay_fits out text (omega arith))
 
-pub set_past : {X : Type 0} (xs : List X) (i : ℕ) (v : X) → length xs ≤ i → set xs i v ≡ xs
-set_past [] i v h = refl
-set_past (x ∷ xs) zero v h = absurd (omega arith)
-set_past (x ∷ xs) (suc i) v h = ap (λ l. x ∷ l) (set_past xs i v (omega arith))
+overlay_past : (out : List ℕ) (at : ℕ) (xs : List ℕ) → length out ≤ at → overlay out at xs ≡ out
+overlay_past out at [] h = refl
+overlay_past out at (x ∷ xs) h = rw (set_past out at x h) (overlay_past out (at + 1) xs (omega arith))
 
-pub laid_none : (out : List ℕ) (at : ℕ) → Laid out at [] at out
-laid_none out at = record { place = omega arith; over = refl }
+-- where a place is counted no further, it is past the end
+overlay_counted : (out : List ℕ) (at : ℕ) (xs : List ℕ) → length out < 2 ^ 64 → overlay out (min (2 ^ 64 - 1) at) xs ≡ overlay out at xs
+overlay_counted out at xs h =
+    ⊎_elim
+    (λ lt. let e : min (2 ^ 64 - 1) at ≡ at = omega arith in ap (λ i. overlay out i xs) e)
+    (λ ge. overlay_past out (min (2 ^ 64 - 1) at) xs (omega arith) ∙ sym (overlay_past out at xs (omega arith)))
+    (cases_lt at (2 ^ 64))
 
-pub laid_then : {out mid out' xs ys : List ℕ} {at m r : ℕ} → Laid out at xs m mid → Laid mid m ys r out' → Laid out at (xs ++ ys) r out'
-laid_then {out} {mid} {out'} {xs} {ys} {at} {m} {r} a b =
-    record {
-      place = omega (arith, a.place, b.place, length-append xs ys);
-      over = b.over ∙ ap (λ i. overlay mid i ys) a.place ∙ ap (λ o. overlay o (at + length xs) ys) a.over ∙ sym (overlay_append out at xs ys);
-    }
-
-pub laid_as : {out out' xs ys : List ℕ} {at r : ℕ} → xs ≡ ys → Laid out at xs r out' → Laid out at ys r out'
-laid_as {out} {out'} {xs} {ys} {at} {r} e a = subst (λ z. Laid out at z r out') e a
-
-pub laid_front : {out text out' : List ℕ} {r : ℕ} → Laid out 0 text r out' → length text ≤ length out → (r ≡ length text) × (out' ≡ text ++ drop r out)
-laid_front {out} {text} {out'} {r} l h =
+pub laid_front : {out text out' : List ℕ} {r : ℕ} → Laid out 0 text r out' → length text ≤ length out → length out < 2 ^ 64 → (r ≡ length text) × (out' ≡ text ++ drop r out)
+laid_front {out} {text} {out'} {r} l h few =
     let e : r ≡ length text = omega (arith, l.place) in
     (e, l.over ∙ overlay_fits out text h ∙ ap (λ k. text ++ drop k out) (sym e))
+
+pub puts_then : {w m w' : Writer} {xs ys : List ℕ} → Puts w xs m → Puts m ys w' → Puts w (xs ++ ys) w'
+puts_then {w} {m} {w'} {xs} {ys} a b =
+    record {
+      same_reference = b.same_reference ∙ a.same_reference;
+      laid = record {
+        place = omega (arith, a.laid.place, b.laid.place, length-append xs ys);
+        over = b.laid.over ∙ ap (λ i. overlay m.out.now i ys) a.laid.place ∙ overlay_counted m.out.now (w.end + length xs) ys m.countable ∙ ap (λ o. overlay o (w.end + length xs) ys) a.laid.over ∙ sym (overlay_append w.out.now w.end xs ys);
+      };
+    }
+
+pub puts_as : {w w' : Writer} {xs ys : List ℕ} → xs ≡ ys → Puts w xs w' → Puts w ys w'
+puts_as {w} {w'} e a = subst (λ z. Puts w z w') e a

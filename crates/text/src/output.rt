@@ -1,26 +1,54 @@
-// Bytes and numbers laid over lent bytes, as far as these go; each call returns where they end.
-ghost use Rattle.std.specs.Prelude.{◌+◌, ◌^◌, ◌<◌, ◌≤◌, [], ◌∷◌, decimal};
-ghost use Rattle.text.specs.Output.{Laid};
+// Bytes and numbers written over lent bytes.
+ghost use Rattle.std.specs.Prelude.{◌≡◌, ◌^◌, ◌<◌, [], ◌∷◌, length, decimal};
 
-// The limit on `at`, here and below, is beyond any length, and keeps the sums in range.
-pub fn put(b: u8, out: &mut [u8], at: usize) -> usize
-    requires { at < 2 ^ 63 }
-    ensures { Laid out.old at (b ∷ []) result out.new }
-{
-    if at < out.len() {
-        out[at] = b;
-    }
-    at + 1
+use itoa::Buffer;
+
+/// Bytes written one after another over lent bytes, as far as these go; `end` counts on past their end.
+#[derive(Drop)]
+pub struct Writer<'a> {
+    out: &'a mut [u8],
+    end: usize,
+    ghost countable: { length out.now < 2 ^ 64 },
 }
 
-pub fn put_number(k: u32, out: &mut [u8], at: usize) -> usize
-    requires { at < 2 ^ 62 }
-    ensures laid { Laid out.old at (decimal k) result out.new }
-    ensures short { result ≤ at + 10 }
-{
-    if k < 10 {
-        return put(b'0' + k as u8, out, at);
+impl<'a> Writer<'a> {
+    ghost use Rattle.text.specs.Output.{Puts};
+
+    pub fn new(out: &'a mut [u8]) -> Writer<'a>
+        ensures same_reference { result.out.ghost_name ≡ out.entry.ghost_name }
+        ensures begins { (result.out.now ≡ out.old) × (result.end ≡ 0) }
+    {
+        Writer { out, end: 0 }
     }
-    let end = put_number(k / 10, out, at);
-    put(b'0' + (k % 10) as u8, out, end)
+
+    pub fn put(&mut self, b: u8)
+        ensures { Puts self.old (b ∷ []) self.new }
+    {
+        let Writer { out, end } = self;
+        if *end < out.len() {
+            out[*end] = b;
+        }
+        *end = end.saturating_add(1);
+    }
+
+    pub fn put_number(&mut self, k: u32)
+        ensures { Puts self.old (decimal k) self.new }
+    {
+        self.put_all(Buffer::new().format(k).as_bytes());
+    }
+
+    fn put_all(&mut self, text: &[u8])
+        ensures { Puts self.old text.now self.new }
+    {
+        for b in text {
+            self.put(*b);
+        }
+    }
+
+    /// How many bytes were written, those past the end of the lent ones among them.
+    pub fn end(&self) -> usize
+        ensures { result ≡ self.now.end }
+    {
+        self.end
+    }
 }
