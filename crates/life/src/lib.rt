@@ -5,29 +5,23 @@ ghost use Rattle.life.specs.Example.{ExampleIsLived};
 ghost use Rattle.life.specs.Law.{LivesKeepTheLaw, NewCalculatorsLive, CallsGoOn};
 
 // Every life keeps the law.
-pub fn lives_keep_the_law() -> bool
+#[tactic(auto, using(crate::proofs::Lawful::lawful))]
+pub fn lives_keep_the_law()
     ensures { LivesKeepTheLaw }
-{
-    true
-}
+{}
 
 // A new calculator lives, whatever its register table holds.
-pub fn new_calculators_live() -> bool
+pub fn new_calculators_live()
     ensures { NewCalculatorsLive }
-{
-    true
-}
+{}
 
 // A call that steps goes on with every life.
-pub fn calls_go_on() -> bool
+pub fn calls_go_on()
     ensures { CallsGoOn }
-{
-    true
-}
+{}
 
 // The law is about something: one life, with calls accepted and refused.
-pub fn example_is_lived() -> bool
+#[tactic(auto, using(crate::proofs::Example::example_is_lived_lem))]
+pub fn example_is_lived()
     ensures { ExampleIsLived }
-{
-    true
-}
+{}
