@@ -11,7 +11,7 @@ reach k p q n len hk e hn hl = within_table k p n len hk (omega arith) (omega ar
 
 pub slice_bounds-carry-count : goal.slice_bounds-carry-count
 slice_bounds-carry-count g c =
-    let q = c.args.self.now.shape.places in
+    let q = c.args.self.now.shape.places.value in
     let z : 0 ≤ q = omega arith in
     omega (arith, reach c.number.result c.places.result q 0 (length c.args.table.now) c.number.ensures.within c.places.ensures.value z c.requires.roomy)
 
@@ -29,7 +29,7 @@ carry-requires g c =
 pub invariant_of-self : goal.invariant_of-self
 invariant_of-self g c =
     let m = c.args.self.now in
-    record { within = few_after (registers_of m.registers) (registers_of c.hold.new.self) c.args.k.number c.args.count m.shape.places c.requires.few m.within c.hold.ensures.records }
+    record { within = few_after (registers_of m.registers) (registers_of c.hold.new.self) c.args.k.number.value c.args.count m.shape.places.value c.requires.few m.within c.hold.ensures.records }
 
 pub returns : goal.returns
 returns g c =

@@ -16,9 +16,9 @@ pub returns : goal.returns
 returns c =
     let s = c.args.shape in
     let rs = registers_of c.new.result in
-    let fresh : (cells : Cover) → New (record { n = s.variables; places = s.places; registers = rs; cells = cells; stage = free }) = λ cells. record {
-      variables = (s.some_variables, s.few_variables);
-      room = (s.some_places, s.few_places);
+    let fresh : (cells : Cover) → New (record { n = s.variables.value; places = s.places.value; registers = rs; cells = cells; stage = free }) = λ cells. record {
+      variables = (s.variables.low, s.variables.high);
+      room = (s.places.low, s.places.high);
       empty = c.new.ensures;
       unarmed = refl;
     } in

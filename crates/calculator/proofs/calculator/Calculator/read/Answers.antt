@@ -25,14 +25,14 @@ returns-then-table-places g c =
     let m = c.args.self.now in
     let v = view m (map g.C.CubeNotation.slots c.args.table.now) in
     let w = length c.args.working.now in
-    let k = c.args.k.number in
+    let k = c.args.k.number.value in
     let bytes = c.args.text.now in
     let s : Stepped v (event (read k (sheet bytes)) w (refused (fault 4 0))) v =
     elim c.then-table-places.branch [
       | then-table-places-via-then-table-places h ↦ read_table_short v k bytes w (simp length-map (omega (arith, h.if-table-places.true)))
       | then-table-places-via-else-table-places+then-working-places h ↦ read_working_short v k bytes w (simp length-map (omega (arith, h.if-table-places.false))) (omega (arith, h.if-working-places.true))
     ] in
-    record { step = s; kept = (refl, refl); law = goes_on c.args.k.below refl s }
+    record { step = s; kept = (refl, refl); law = goes_on (omega arith) refl s }
 
 pub returns-in_err-count : goal.returns-in_err-count
 returns-in_err-count g c =
@@ -45,10 +45,10 @@ returns-in_err-count g c =
     let is : c.from_residual.result ≡ Err f = p.1 ∙ ap Err p.2 in
     let long : LongTables (given v) w = (simp length-map (omega arith), omega arith) in
     let e = read_err v.n v.places w c.args.text.now f _ (omega arith) c.in_err-count.ensures.result in
-    let s : Stepped v (event (read c.args.k.number (sheet c.args.text.now)) w (done_outcome c.from_residual.result)) v =
-    subst (λ r. Stepped v (event (read c.args.k.number (sheet c.args.text.now)) w (done_outcome r)) v) (sym is)
-    (read_at_fault v c.args.k.number c.args.text.now w (fault_of f) long e) in
-    record { step = s; kept = subst (λ r. Fills c.args.k.number r m t m t) (sym is) (refl, refl); law = goes_on c.args.k.below refl s }
+    let s : Stepped v (event (read c.args.k.number.value (sheet c.args.text.now)) w (done_outcome c.from_residual.result)) v =
+    subst (λ r. Stepped v (event (read c.args.k.number.value (sheet c.args.text.now)) w (done_outcome r)) v) (sym is)
+    (read_at_fault v c.args.k.number.value c.args.text.now w (fault_of f) long e) in
+    record { step = s; kept = subst (λ r. Fills c.args.k.number.value r m t m t) (sym is) (refl, refl); law = goes_on (omega arith) refl s }
 
 pub returns : goal.returns
 returns g c =
@@ -57,7 +57,7 @@ returns g c =
     let slots = g.C.CubeNotation.slots in
     let v = view m (map slots t) in
     let w = length c.args.working.now in
-    let k = c.args.k.number in
+    let k = c.args.k.number.value in
     let count = c.in_ok-count.count in
     let work = c.read_sheet.new.out in
     let u = c.fill.new.self in
@@ -68,8 +68,8 @@ returns g c =
     let after = filled_view slots v t c.fill.new.table work (registers_of u.registers) k count refl wide c.fill.ensures.records c.fill.ensures.cells in
     let cells = map slots c.fill.new.table in
     let same : view u cells ≡ record { n = v.n; places = v.places; registers = registers_of u.registers; cells = cells; stage = free } =
-    ap (λ z. record { n = z.variables; places = z.places; registers = registers_of u.registers; cells = cells; stage = free }) c.fill.ensures.shape in
+    ap (λ z. record { n = z.variables.value; places = z.places.value; registers = registers_of u.registers; cells = cells; stage = free }) c.fill.ensures.shape in
     let s = read_taken v k c.args.text.now w (take count (map slots work)) (view u (map slots c.fill.new.table)) long e (same ∙ after) in
     let there : k * v.places + length (take count work) ≤ length t =
-    let h = within_table k v.places count (length t) c.args.k.below few (omega arith) in let l = length-take-le count work wide in omega arith in
-    record { step = s; kept = (c.fill.ensures.shape, elsewhere t c.fill.new.table (take count work) (k * v.places) (count_of u k) there (c.fill.ensures.held ∙ sym (length-take-le count work wide)) c.fill.ensures.cells); law = goes_on c.args.k.below refl s }
+    let h = within_table k v.places count (length t) (omega arith) few (omega arith) in let l = length-take-le count work wide in omega arith in
+    record { step = s; kept = (c.fill.ensures.shape, elsewhere t c.fill.new.table (take count work) (k * v.places) (count_of u k) there (c.fill.ensures.held ∙ sym (length-take-le count work wide)) c.fill.ensures.cells); law = goes_on (omega arith) refl s }

@@ -8,7 +8,7 @@ use Rattle.calculator.proofs.registers.Registers.hold.Goals as goal
 pub returns : goal.returns
 returns c =
     let r = c.args.self.now in
-    let k = c.args.k.number in
+    let k = c.args.k.number.value in
     let m = c.args.count in
     let all : length r.records ≡ 32 = search rules in
     let within : k < length (registers_of r) = simp length-map (omega arith) in
