@@ -1,12 +1,13 @@
 -- What a command line asks.
-use Rattle.std.specs.Prelude.{ℕ, ◌+◌, Bool, cond, ◌||◌, List, [], ◌∷◌, ℤ, pos, negsuc, Some, None, Ok, Err, Option, Result, ◌==◌, nat_le}
+use Rattle.std.specs.Prelude.{◌≡◌, ℕ, ◌+◌, Bool, true, cond, ◌||◌, List, [], ◌∷◌, ℤ, pos, negsuc, Some, None, Ok, Err, Option, Result, ◌==◌, nat_le}
+use Rattle.std.specs.Borrow.{Bor}
 use Rattle.cube.specs.declared.refusal.Refusal.{Refusal}
 use Rattle.cube.specs.Refusals.{Fault, fault, fault_of}
 use Rattle.text.specs.Words.{gap}
 use Rattle.text.specs.Tokens.{Stream, tok, end, bad, num, eol, stream, between}
 use Rattle.text.specs.Numerals.{minus_in, size_in, signed}
 use Rattle.command.specs.declared.parse.Command.{Command}
-use Rattle.command.specs.declared.parse.Command.TheVariants.{Make, Read, Print, Quit}
+use Rattle.command.specs.declared.parse.Command.TheVariants.{Read, Print, Quit}
 
 pub data Asked : Type 0 where
   make : ℤ → Asked
@@ -15,9 +16,8 @@ pub data Asked : Type 0 where
   quit : Asked
 
 abbrev pub asked : Command → Asked
-asked (Make variables) = make variables
-asked (Read register) = read register.number
-asked (Print register) = print register.number
+asked (Read register) = read register.number.value
+asked (Print register) = print register.number.value
 asked Quit = quit
 
 -- the first command is v, and no later one is
@@ -67,8 +67,27 @@ asked_on first at (b ∷ rest) =
     cond (gap b) (asked_on first (at + 1) rest)
     (cond (admitted first b) (with_numbers b (numbers_in (stream between (at + 1) rest))) (Err (fault 50 at)))
 
--- what the parser returns, seen so
+-- an answer or a refusal, seen so
+abbrev pub answered : {T : Type 0} → (T → Asked) → Result T Refusal → Result Asked Fault
+answered see (Ok x) = Ok (see x)
+answered see (Err f) = Err (fault_of f)
+
+-- what a parser returns, seen so
+abbrev pub parsed_as : {T : Type 0} → (T → Asked) → Result (Option T) Refusal → Result (Option Asked) Fault
+parsed_as see (Ok None) = Ok None
+parsed_as see (Ok (Some x)) = Ok (Some (see x))
+parsed_as see (Err f) = Err (fault_of f)
+
+abbrev pub first_parsed : Result (Option ℤ) Refusal → Result (Option Asked) Fault
+first_parsed = parsed_as make
+
 abbrev pub parsed : Result (Option Command) Refusal → Result (Option Asked) Fault
-parsed (Ok None) = Ok None
-parsed (Ok (Some c)) = Ok (Some (asked c))
-parsed (Err f) = Err (fault_of f)
+parsed = parsed_as asked
+
+-- f says which letters may begin a command
+abbrev pub Admits : {F : Type 0} → (F → ℕ → Bool → Type 0) → F → Bool → Type 0
+Admits post f first = (letter : ℕ) (yes : Bool) → post f letter yes → yes ≡ admitted first letter
+
+-- f gives what such a letter asks with its numbers
+abbrev pub Asks : {F T : Type 0} → (F → ℕ → Bor (List ℤ) → Result T Refusal → Type 0) → F → Bool → (T → Asked) → Type 0
+Asks post f first see = (letter : ℕ) (numbers : Bor (List ℤ)) (r : Result _ Refusal) → admitted first letter ≡ true → post f letter numbers r → answered see r ≡ asked_by letter numbers.now

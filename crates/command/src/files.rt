@@ -4,7 +4,8 @@ ghost use Rattle.command.specs.Files.{file_of, lent};
 
 use calculator::register::RegisterNumber;
 
-/// What the file of each register holds, in the order of the registers; none where there is no such file.
+/// What the file of each register holds; none where there is no such file.
+// A list and no map: each register has its place, by its number, and most have no file.
 #[derive(Drop)]
 pub struct Files {
     pub sheets: Vec<Option<Vec<u8>>>,
@@ -13,7 +14,7 @@ pub struct Files {
 impl Files {
     /// What the file of register k holds.
     pub fn sheet(&self, k: RegisterNumber) -> Option<&[u8]>
-        ensures { lent result ≡ file_of self.now k.number }
+        ensures { lent result ≡ file_of self.now k.number.value }
     {
         self.sheets.get(k.number() as usize)?.as_deref()
     }

@@ -1,84 +1,35 @@
 // A command line as a value: a letter, and the numbers after it.
-ghost use Rattle.std.specs.Prelude.{◌≡◌, ◌<◌, ◌≤◌, Bool, true, false, List, length, drop, ℤ, slice_index};
-ghost use Rattle.cube.specs.Refusals.{told};
+ghost use Rattle.std.specs.Prelude.{◌≡◌, ◌<◌, ◌≤◌, Bool, true, false, length, drop, slice_index};
 ghost use Rattle.text.specs.Tokens.{tokens_from};
 ghost use Rattle.text.specs.Words.{gap};
-ghost use Rattle.command.specs.Asked.{admitted, asked_by, asked_on, numbers_in, parsed};
-ghost use Rattle.command.specs.Counted.{with_number, counted, counted_in, asked_as};
+ghost use Rattle.command.specs.Asked.{Admits, Asked, Asks, admitted, answered, asked, asked_by, asked_on, first_parsed, numbers_in, parsed, parsed_as};
+ghost use Rattle.command.specs.Counted.{first_two, two_held};
 
 use crate::lines::CommandLine;
+use arrayvec::ArrayVec;
 use calculator::register::RegisterNumber;
 use cube::refusal::Refusal;
-use text::bytes::{Kind, kind_of};
-use text::numeral::read_numeral;
+use text::bytes::Kind;
+use text::scan::first_from;
 use text::tokens::{Token, Tokens};
 
-/// What a line asks of the console.
-#[derive(Clone, Copy)]
+/// What a line after the first command asks of the console.
+#[derive(Clone, Copy, PartialEq, Eq, Debug)]
 pub enum Command {
-    Make { variables: i32 },
     Read { register: RegisterNumber },
     Print { register: RegisterNumber },
     Quit,
 }
 
-// The numbers of a line, as far as commands take them.
-#[derive(Clone, Copy)]
-enum Numbers {
-    None,
-    One(i32),
-    More,
-}
-
-impl Numbers {
-    fn and(self, number: i32) -> Numbers
-        ensures { result ≡ with_number self number }
-    {
-        match self {
-            Numbers::None => Numbers::One(number),
-            _ => Numbers::More,
-        }
-    }
-}
-
-// Whether a command may begin so; the first makes the calculator, and no other does.
-fn admits(letter: char, first: bool) -> bool
-    ensures { result ≡ admitted first letter }
-{
-    match letter {
-        'v' => first,
-        'r' | 'p' | 'q' => !first,
-        _ => false,
-    }
-}
-
-// What a letter that may begin a command asks with these numbers.
-fn command_of(letter: char, numbers: Numbers) -> Result<Command, Refusal>
-    ensures { (first : Bool) (zs : List ℤ) → admitted first letter ≡ true → counted Numbers.None zs ≡ numbers → asked_as result ≡ asked_by letter zs }
-{
-    match (letter, numbers) {
-        ('v', Numbers::One(variables)) => Ok(Command::Make { variables }),
-        ('r', Numbers::One(k)) => Ok(Command::Read {
-            register: RegisterNumber::new(k)?,
-        }),
-        ('p', Numbers::One(k)) => Ok(Command::Print {
-            register: RegisterNumber::new(k)?,
-        }),
-        ('q', Numbers::None) => Ok(Command::Quit),
-        _ => Err(Refusal::WrongNumberCount),
-    }
-}
-
-// The numbers from a place on; the first fault in them refuses the line.
-fn numbers_from(text: &[u8], start: usize) -> Result<Numbers, Refusal>
+// The first two numbers from a place on, one more than a command takes; the first fault in the line refuses it.
+fn numbers_from(text: &[u8], start: usize) -> Result<ArrayVec<i32, 2>, Refusal>
     requires { start ≤ length text.now }
-    ensures { told result ≡ counted_in Numbers.None (numbers_in (tokens_from text.now start)) }
+    ensures { two_held result ≡ first_two (numbers_in (tokens_from text.now start)) }
 {
-    let mut numbers = Numbers::None;
-    let mut tokens = Tokens::starting_at(text, start);
-    while let Some(token) = tokens.next()? {
-        if let Token::Number { text, .. } = token {
-            numbers = numbers.and(read_numeral(text).value());
+    let mut numbers = ArrayVec::new();
+    for token in Tokens::starting_at(text, start) {
+        if let Token::Number { numeral, .. } = token? {
+            let _ = numbers.try_push(numeral.value());
         }
     }
     Ok(numbers)
@@ -90,16 +41,18 @@ fn past_separators(text: &[u8], from: usize) -> usize
     ensures stops { result < length text.now → gap (slice_index text.now result) ≡ false }
     ensures same { (first : Bool) → asked_on first from (drop from text.now) ≡ asked_on first result (drop result text.now) }
 {
-    let mut p = from.min(text.len());
-    while p < text.len() && kind_of(text[p]) == Kind::Separator {
-        p += 1;
-    }
-    p
+    first_from(text, from, |b| Kind::from(b) != Kind::Separator)
 }
 
-/// What a line asks; nothing where it has separators alone.
-pub fn parse(line: CommandLine, first: bool) -> Result<Option<Command>, Refusal>
-    ensures { parsed result ≡ asked_on first line.entry.start (drop line.entry.start line.entry.text.now) }
+// What a line asks, by which letters may begin it, and what such a letter asks with the first two numbers after it.
+fn parse_as<T, A: FnOnce(char) -> bool, F: FnOnce(char, &[i32]) -> Result<T, Refusal>>(
+    line: CommandLine,
+    admits: A,
+    ask: F,
+) -> Result<Option<T>, Refusal>
+    requires admits { A.IsAlwaysCallable admits }
+    requires asks { F.IsAlwaysCallable ask }
+    ensures { (first : Bool) (see : T → Asked) → Admits A.post admits first → Asks F.post ask first see → parsed_as see result ≡ asked_on first line.entry.start (drop line.entry.start line.entry.text.now) }
 {
     let text = line.text;
     let at = past_separators(text, line.start);
@@ -107,11 +60,48 @@ pub fn parse(line: CommandLine, first: bool) -> Result<Option<Command>, Refusal>
         [] => Ok(None),
         [letter, rest @ ..] => {
             let letter = char::from(*letter);
-            if !admits(letter, first) {
+            if !admits(letter) {
                 return Err(Refusal::NoSuchCommand { at });
             }
             let numbers = numbers_from(text, text.len() - rest.len())?;
-            Ok(Some(command_of(letter, numbers)?))
+            Ok(Some(ask(letter, numbers.as_slice())?))
         }
     }
+}
+
+/// The number that the first command asks for; nothing where the line has separators alone.
+pub fn parse_first(line: CommandLine) -> Result<Option<i32>, Refusal>
+    ensures { first_parsed result ≡ asked_on true line.entry.start (drop line.entry.start line.entry.text.now) }
+{
+    parse_as(
+        line,
+        |letter| letter == 'v',
+        |_, numbers| match numbers {
+            [variables] => Ok(*variables),
+            _ => Err(Refusal::WrongNumberCount),
+        },
+    )
+}
+
+// What a letter that may begin a later command asks with these numbers.
+fn command_of(letter: char, numbers: &[i32]) -> Result<Command, Refusal>
+    ensures { admitted false letter ≡ true → answered asked result ≡ asked_by letter numbers.now }
+{
+    match (letter, numbers) {
+        ('r', [k]) => Ok(Command::Read {
+            register: RegisterNumber::try_from(*k)?,
+        }),
+        ('p', [k]) => Ok(Command::Print {
+            register: RegisterNumber::try_from(*k)?,
+        }),
+        ('q', []) => Ok(Command::Quit),
+        _ => Err(Refusal::WrongNumberCount),
+    }
+}
+
+/// What a line after the first command asks; nothing where it has separators alone.
+pub fn parse_later(line: CommandLine) -> Result<Option<Command>, Refusal>
+    ensures { parsed result ≡ asked_on false line.entry.start (drop line.entry.start line.entry.text.now) }
+{
+    parse_as(line, |letter| matches!(letter, 'r' | 'p' | 'q'), command_of)
 }

@@ -19,11 +19,9 @@ impl Layer {
     pub fn of_call(refusal: Refusal) -> Layer
         ensures { result ≡ layer_of (fault_of refusal) }
     {
-        let number = refusal.number();
-        if number >= 20 && number <= 36 {
-            Layer::Sheet
-        } else {
-            Layer::Calculator
+        match refusal.number() {
+            20..=36 => Layer::Sheet,
+            _ => Layer::Calculator,
         }
     }
 }
@@ -32,17 +30,16 @@ impl fmt::Display for Layer {
     ghost output = { λ l. Some (layer_name l) };
 
     fn fmt<W: fmt::Write>(&self, f: &mut fmt::Formatter<W>) -> fmt::Result {
-        let name = match self {
+        f.write_str(match self {
             Layer::Sheet => "sheet",
             Layer::Command => "command",
             Layer::Calculator => "calculator",
-        };
-        write!(f, "{name}")
+        })
     }
 }
 
 /// A refused line: its number from 1, who refused, and why.
-#[derive(Clone, Copy)]
+#[derive(Clone, Copy, PartialEq, Eq, Debug)]
 pub struct RefusedLine {
     pub line: usize,
     pub layer: Layer,
@@ -52,11 +49,14 @@ pub struct RefusedLine {
 impl fmt::Display for RefusedLine {
     ghost output = { λ x. Some (report x.line x.layer (fault_of x.refusal)) };
 
+    #[tactic(auto, unfolding(crate::specs::Report::report))]
     fn fmt<W: fmt::Write>(&self, f: &mut fmt::Formatter<W>) -> fmt::Result {
-        let line = self.line;
-        let layer = self.layer;
-        let number = self.refusal.number();
-        let offset = self.refusal.offset();
+        let RefusedLine {
+            line,
+            layer,
+            refusal,
+        } = *self;
+        let (number, offset) = (refusal.number(), refusal.offset());
         writeln!(f, "line {line} {layer} {number} at {offset}")
     }
 }

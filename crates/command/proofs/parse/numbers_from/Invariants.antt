@@ -1,12 +1,12 @@
-use Rattle.std.proofs.Common.{◌≡◌, ◌-◌, length}
+use Rattle.std.proofs.Common.{◌≡◌, ◌≤◌, length}
 use Rattle.text.specs.Tokens.{tokens_from}
-use Rattle.command.specs.declared.parse.Numbers.TheVariants.{None}
 use Rattle.command.specs.Asked.{numbers_in}
-use Rattle.command.specs.Counted.{counted_in}
+use Rattle.command.specs.Counted.{first_two, two_of}
 use Rattle.command.proofs.parse.numbers_from.Given as goal
 
 abbrev pub invariant-loop-token : goal.invariant-loop-token
-invariant-loop-token l = (l.tokens.text.now ≡ l.text) × (counted_in None (numbers_in (tokens_from l.text l.start)) ≡ counted_in l.numbers (numbers_in (tokens_from l.text l.tokens.pos)))
-
-abbrev pub decreases-loop-token : goal.decreases-loop-token
-decreases-loop-token l = length l.text - l.tokens.pos
+invariant-loop-token l = record {
+  text : l.token-iterator.text.now ≡ l.text;
+  room : length l.numbers.items ≤ 2;
+  same : first_two (numbers_in (tokens_from l.text l.start)) ≡ two_of l.numbers.items (numbers_in (tokens_from l.text l.token-iterator.place));
+}
