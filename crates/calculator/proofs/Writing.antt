@@ -1,6 +1,6 @@
 -- From the contract of writing to the step of a write.
-use Rattle.std.proofs.Common.{◌≡◌, ℕ, ◌+◌, ◌-◌, ◌*◌, ◌<◌, ◌≤◌, List, map, length, get_or, take, drop, Ok, Err, Result, sym, refl, ap, ◌∙◌, subst, arith}
-use Rattle.std.proofs.lemmas.List.{length-take, take_at, drop_at, take-map, drop-map}
+use Rattle.std.proofs.Common.{◌≡◌, ℕ, ◌+◌, ◌-◌, ◌*◌, ◌<◌, ◌≤◌, List, map, length, get_or, take, drop, Ok, Err, Result, sym, ap, ◌∙◌, subst, arith}
+use Rattle.std.proofs.lemmas.List.{length-take, take_at, take-map, drop-map}
 use Rattle.cube.specs.declared.refusal.Refusal.{Refusal}
 use Rattle.cube.specs.Slots.{Cube, Cover, blank_above}
 use Rattle.sheet.specs.Writing.{write_sheet, Writes, Exact}
@@ -9,8 +9,6 @@ use Rattle.life.specs.Call.Call.{write}
 use Rattle.life.specs.Call.Outcome.{refused}
 use Rattle.life.specs.View.{View, of_count, operand, Stepped}
 use Rattle.life.proofs.Ends.{write_without_room, write_made}
-use Rattle.calculator.specs.declared.calculator.Calculator.{Calculator}
-use Rattle.calculator.specs.Kept.{Put}
 use Rattle.calculator.specs.Seen.{text_outcome}
 
 -- an operand is the part of the table at its places, Blank above n
@@ -39,7 +37,3 @@ write_step v a count F out out' (Ok k) long few w x e =
 write_step v a count F out out' (Err f) long few w x e =
     subst (λ z. Stepped v (event (write a (length out)) 0 (refused z)) v) (sym w.1)
     (write_without_room v a (length out) 0 long (subst (λ G. length out < length (write_sheet v.n G)) e (x few)))
-
-pub write_puts : (text out out' : List ℕ) (c : Calculator) (r : Result ℕ Refusal) → Writes text out r out' → Put r c out c out'
-write_puts text out out' c (Ok k) w = (refl, (let h = w.0 in let e = w.2 in omega arith), ap (drop k) w.3 ∙ drop_at text (drop k out) k (sym w.2))
-write_puts text out out' c (Err f) w = (refl, w.2)

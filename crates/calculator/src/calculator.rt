@@ -1,7 +1,6 @@
 // The calculator as a value; its calls stand in a module below, which sees its fields.
 ghost use Rattle.std.specs.Prelude.{ℕ, ◌≤◌, slice_index_or};
 ghost use Rattle.life.specs.View.{of_count};
-ghost use Rattle.calculator.specs.Records.{registers_of};
 
 use crate::registers::Registers;
 use cube::shape::Shape;
@@ -13,5 +12,5 @@ pub mod calls;
 pub struct Calculator {
     shape: Shape,
     registers: Registers,
-    ghost within: { (k : ℕ) → (slice_index_or (registers_of registers) k (of_count 0)).count ≤ shape.places.value },
+    ghost within: { (k : ℕ) → (slice_index_or registers k (of_count 0)).count ≤ shape.places.value },
 }

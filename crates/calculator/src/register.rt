@@ -32,3 +32,11 @@ impl RegisterNumber {
         self.number.get() as u8
     }
 }
+
+impl From<RegisterNumber> for usize {
+    ghost from_gives = { λ k index. index ≡ k.number.value };
+
+    fn from(k: RegisterNumber) -> usize {
+        k.number() as usize
+    }
+}

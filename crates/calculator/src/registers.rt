@@ -1,9 +1,9 @@
-// The records of the 32 registers.
+// The records of the 32 registers, which stand within the calculator.
 ghost use Rattle.std.specs.Prelude.{◌≡◌, replicate, slice_index_or, slice_set};
 ghost use Rattle.life.specs.View.{of_count};
-ghost use Rattle.calculator.specs.Records.{registers_of};
 
 use crate::register::RegisterNumber;
+use std::marker::Model;
 
 /// What a calculator keeps of one register.
 #[derive(Clone, Copy)]
@@ -11,19 +11,29 @@ pub struct Record {
     count: u16,
 }
 
+impl Model for Record {
+    ghost use Rattle.life.specs.View.{Register, of_count};
+
+    ghost Value = { Register };
+
+    ghost view = { λ r. of_count r.count };
+
+    ghost inverse = { λ r. record { count = r.count } };
+}
+
 impl Record {
     /// The record of a register that holds no cube.
     pub fn empty() -> Record
-        ensures { result.count ≡ 0 }
+        ensures { result ≡ of_count 0 }
     {
         Record { count: 0 }
     }
 
     /// The register holds so many cubes from now on.
     pub fn hold(&mut self, count: u16)
-        ensures { self.new.count ≡ count }
+        ensures { self.new ≡ of_count count }
     {
-        *self = Record { count };
+        self.count = count;
     }
 
     pub fn count(self) -> u16
@@ -33,14 +43,24 @@ impl Record {
     }
 }
 
-#[derive(Clone, Copy)]
+/// The tables of cubes are handed in at each call; only the records are a calculator's own.
+#[derive(Drop)]
 pub struct Registers {
     records: [Record; 32],
 }
 
+impl Model for Registers {
+    ghost use Rattle.std.specs.Prelude.{List};
+    ghost use Rattle.life.specs.View.{Register};
+
+    ghost Value = { List Register };
+
+    ghost view = { λ r. r.records };
+}
+
 impl Registers {
     pub fn new() -> Registers
-        ensures { registers_of result ≡ replicate 32 (of_count 0) }
+        ensures { result ≡ replicate 32 (of_count 0) }
     {
         Registers {
             records: [Record::empty(); 32],
@@ -49,16 +69,16 @@ impl Registers {
 
     /// How many cubes register k holds.
     pub fn count(&self, k: RegisterNumber) -> u16
-        ensures { result ≡ (slice_index_or (registers_of self.now) k.number.value (of_count 0)).count }
+        ensures { result ≡ (slice_index_or self.now k.number.value (of_count 0)).count }
     {
-        self.records[k.number() as usize].count()
+        self.records[usize::from(k)].count()
     }
 
     /// Register k holds so many cubes from now on; its record is lent to be updated.
     pub fn hold(&mut self, k: RegisterNumber, count: u16)
-        ensures records { registers_of self.new ≡ slice_set (registers_of self.old) k.number.value (of_count count) }
-        ensures held { slice_index_or (registers_of self.new) k.number.value (of_count 0) ≡ of_count count }
+        ensures records { self.new ≡ slice_set self.old k.number.value (of_count count) }
+        ensures held { slice_index_or self.new k.number.value (of_count 0) ≡ of_count count }
     {
-        self.records[k.number() as usize].hold(count);
+        self.records[usize::from(k)].hold(count);
     }
 }

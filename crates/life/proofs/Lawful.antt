@@ -18,7 +18,7 @@ use Rattle.life.specs.View.{View, given, operand, New, Stepped}
 use Rattle.life.specs.History.{rows, stage_after, Lived, Past, Happened}
 use Rattle.life.specs.History.Lived.{made, called}
 use Rattle.life.specs.History.Past.{now, earlier}
-use Rattle.life.specs.Law.{taken_in, Law, Goes}
+use Rattle.life.specs.Law.{taken_in, Law, Goes, LivesOn}
 use Rattle.life.proofs.Sheets.{written_is_a_sheet}
 use Rattle.life.proofs.Makes.{none_of, sheet_of, same_answers}
 use Rattle.life.proofs.Sound.{Sound, alike, causes_are, step_sound, sound_of}
@@ -156,9 +156,12 @@ lawful {v} {es} l =
       write_left_a_sheet = λ a room w bytes before h. write_sheet_at (call_of l h);
     }
 
--- what each call of a calculator uses: from its own step to the law
 pub goes_on : {v w : View} {e : Event} → Numbered e.call → Allowed v.stage e.call → Stepped v e w → Goes v e w
 goes_on n a s = λ es l. let m = called l n a s in (m, lawful m)
+
+-- what each call of a calculator uses: from its own step to the law
+pub lives_on : {v w : View} {e : Event} → Numbered e.call → Allowed v.stage e.call → Stepped v e w → LivesOn v e w
+lives_on n a s = record { step = s; law = goes_on n a s }
 
 pub begins : {v : View} → New v → Lived v [] × Law v []
 begins n = let l = made n in (l, lawful l)

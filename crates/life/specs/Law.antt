@@ -53,6 +53,11 @@ Law v es = LawUnder (given v) v es
 abbrev pub Goes : View → Event → View → Type 0
 Goes v e w = (es : List Event) → Lived v es → Lived w (e ∷ es) × Law w (e ∷ es)
 
+-- the view v becomes w by this event, and with it every life goes on
+pub record LivesOn (v : View) (e : Event) (w : View) : Type 0 where
+  pub step : Stepped v e w
+  pub law : Goes v e w
+
 -- every life keeps the law
 abbrev pub LivesKeepTheLaw : Type 0
 LivesKeepTheLaw = (v : View) (es : List Event) → Lived v es → Law v es

@@ -4,10 +4,9 @@ ghost use Rattle.cube.specs.Slots.{Cube};
 ghost use Rattle.life.specs.Call.{event};
 ghost use Rattle.life.specs.Call.Call.{read as reading, write as writing};
 ghost use Rattle.life.specs.Call.Source.{sheet as sheet_of};
-ghost use Rattle.life.specs.View.{Stepped, New, written, of_count};
+ghost use Rattle.life.specs.View.{New, written, of_count};
 ghost use Rattle.life.specs.History.{Lived};
-ghost use Rattle.life.specs.Law.{Law, Goes};
-ghost use Rattle.calculator.specs.Records.{registers_of};
+ghost use Rattle.life.specs.Law.{Law, LivesOn};
 ghost use Rattle.calculator.specs.Seen.{view, done_outcome, text_outcome};
 ghost use Rattle.calculator.specs.Kept.{Fills, Put, count_of};
 
@@ -40,9 +39,10 @@ impl Calculator {
         table: &mut [C],
         working: &mut [C],
     ) -> Result<(), Refusal>
-        ensures step { Stepped (view self.old (map C.slots table.old)) (event (reading k.number.value (sheet_of text.now)) (length working.old) (done_outcome result)) (view self.new (map C.slots table.new)) }
+        ensures lives { LivesOn (view self.old (map C.slots table.old))
+            (event (reading k.number.value (sheet_of text.now)) (length working.old) (done_outcome result))
+            (view self.new (map C.slots table.new)) }
         ensures kept { Fills k.number.value result self.old table.old self.new table.new }
-        ensures law { Goes (view self.old (map C.slots table.old)) (event (reading k.number.value (sheet_of text.now)) (length working.old) (done_outcome result)) (view self.new (map C.slots table.new)) }
     {
         let places = self.shape.places() as usize;
         if table.len() < 32 * places || working.len() < 64 * places {
@@ -60,15 +60,16 @@ impl Calculator {
         table: &[C],
         out: &mut [u8],
     ) -> Result<usize, Refusal>
-        ensures step { Stepped (view self.old (map C.slots table.now)) (event (writing a.number.value (length out.old)) 0 (text_outcome result out.new)) (view self.new (map C.slots table.now)) }
+        ensures lives { LivesOn (view self.old (map C.slots table.now))
+            (event (writing a.number.value (length out.old)) 0 (text_outcome result out.new))
+            (view self.new (map C.slots table.now)) }
         ensures kept { Put result self.old out.old self.new out.new }
-        ensures law { Goes (view self.old (map C.slots table.now)) (event (writing a.number.value (length out.old)) 0 (text_outcome result out.new)) (view self.new (map C.slots table.now)) }
     {
         let places = self.shape.places() as usize;
         if table.len() < 32 * places {
             return Err(Refusal::TableTooShort);
         }
-        let start = a.number() as usize * places;
+        let start = usize::from(a) * places;
         let count = self.registers.count(a) as usize;
         write_sheet(self.shape, &table[start..start + count], out)
     }
@@ -87,18 +88,10 @@ impl Calculator {
         ensures shape { self.new.shape ≡ self.old.shape }
         ensures cells { table.new ≡ written table.old (k.number.value * self.old.shape.places.value) (take count working.now) }
         ensures held { count_of self.new k.number.value ≡ count }
-        ensures records { registers_of self.new.registers ≡ slice_set (registers_of self.old.registers) k.number.value (of_count count) }
+        ensures records { self.new.registers ≡ slice_set self.old.registers k.number.value (of_count count) }
     {
-        let start = k.number() as usize * self.shape.places() as usize;
-        carry(working, &mut table[start..], count);
+        let start = usize::from(k) * self.shape.places() as usize;
+        table[start..start + count].copy_from_slice(&working[..count]);
         self.registers.hold(k, count as u16);
     }
-}
-
-// Copies the first n of one list over the first n of another.
-fn carry<C: Copy>(from: &[C], to: &mut [C], n: usize)
-    requires { (n ≤ length from.now) × (n ≤ length to.old) }
-    ensures { to.new ≡ take n from.now ++ drop n to.old }
-{
-    to[0..n].copy_from_slice(&from[0..n]);
 }
