@@ -11,7 +11,7 @@ use Rattle.text.specs.Tokens.{tokens_from}
 use Rattle.text.proofs.Runs.{same_up_to}
 use Rattle.command.specs.Asked.{admitted, asked_on, numbers_in, with_numbers}
 
-pub is_gap : (b : ℕ) → kind b ≡ Separator → gap b ≡ true
+is_gap : (b : ℕ) → kind b ≡ Separator → gap b ≡ true
 is_gap b e = grind (arith, nat_tests)
 
 module _ (first : Bool) (xs : List ℕ) (p : ℕ) where
@@ -22,10 +22,10 @@ module _ (first : Bool) (xs : List ℕ) (p : ℕ) where
   gap_more h e = at_drop_more (asked_on first p) xs p 0 h ∙ cond-true _ _ _ e
 
 -- separators are passed over
-pub past_gaps : (first : Bool) (xs : List ℕ) (from p : ℕ) → min from (length xs) ≤ p → p ≤ length xs → ((k : ℕ) → from + k < p → gap (get_or xs (from + k) 0) ≡ true) → asked_on first from (drop from xs) ≡ asked_on first p (drop p xs)
+pub past_gaps : (first : Bool) (xs : List ℕ) (from p : ℕ) → min from (length xs) ≤ p → p ≤ length xs → ((k : ℕ) → from + k < p → kind (get_or xs (from + k) 0) ≡ Separator) → asked_on first from (drop from xs) ≡ asked_on first p (drop p xs)
 past_gaps first xs from p after within gaps =
     ⊎_elim
-    (λ lt. same_up_to (λ i. asked_on first i (drop i xs)) from p (omega arith) (λ k h. gap_more first xs (from + k) (omega arith) (gaps k h)))
+    (λ lt. same_up_to (λ i. asked_on first i (drop i xs)) from p (omega arith) (λ k h. gap_more first xs (from + k) (omega arith) (is_gap (get_or xs (from + k) 0) (gaps k h))))
     (λ ge. no_letter first xs from ge ∙ sym (no_letter first xs p (omega arith)))
     (cases_lt from (length xs))
 

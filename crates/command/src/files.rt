@@ -5,7 +5,7 @@ ghost use Rattle.command.specs.Files.{file_of, lent};
 use calculator::register::RegisterNumber;
 
 /// What the file of each register holds; none where there is no such file.
-// A list and no map: each register has its place, by its number, and most have no file.
+// A Vec and no map: every register has a place, in the order of their numbers.
 #[derive(Drop)]
 pub struct Files {
     pub sheets: Vec<Option<Vec<u8>>>,

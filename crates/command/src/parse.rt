@@ -103,5 +103,11 @@ fn command_of(letter: char, numbers: &[i32]) -> Result<Command, Refusal>
 pub fn parse_later(line: CommandLine) -> Result<Option<Command>, Refusal>
     ensures { parsed result ≡ asked_on false line.entry.start (drop line.entry.start line.entry.text.now) }
 {
-    parse_as(line, |letter| matches!(letter, 'r' | 'p' | 'q'), command_of)
+    parse_as(
+        line,
+        |letter|
+            ensures { result ≡ admitted false letter }
+        { matches!(letter, 'r' | 'p' | 'q') },
+        command_of,
+    )
 }
