@@ -1,5 +1,5 @@
 -- What is read is a sheet in words, and every sheet in words is read.
-use Rattle.std.proofs.Common.{◌≡◌, ℕ, suc, ◌+◌, ◌-◌, ◌<◌, ◌≤◌, Bool, true, false, cond, not, ◌&&◌, ◌||◌, eqb, ltb, leb, List, [], ◌∷◌, ◌++◌, length, get_or, set, Ok, Err, Result, sym, refl, ap, ◌∙◌, subst, append_assoc, append-nil, arith}
+use Rattle.std.proofs.Common.{◌≡◌, ℕ, suc, ◌+◌, ◌-◌, ◌<◌, ◌≤◌, Bool, true, false, cond, not, ◌&&◌, ◌||◌, eqb, ltb, leb, List, [], ◌∷◌, ◌++◌, length, get_or, set, Some, None, Ok, Err, Option, Result, sym, refl, ap, ◌∙◌, subst, append_assoc, append-nil, arith}
 use Rattle.std.proofs.lemmas.Bool.{le-ltb, cond-true, cond-false}
 use Rattle.std.proofs.lemmas.Bool.Decides.{nat_tests}
 use Rattle.std.proofs.lemmas.List.{length_push, get_or_at, set_at}
@@ -8,17 +8,17 @@ use Rattle.cube.specs.declared.slot.Slot.{Slot}
 use Rattle.sheet.specs.declared.reading.ReaderState.{ReaderState}
 use Rattle.sheet.specs.declared.reading.ReaderState.TheVariants.{BeforeLine1, BeforeLine2, AmongCubes}
 use Rattle.sheet.specs.declared.reading.Deed.{Deed}
-use Rattle.sheet.specs.declared.reading.Deed.TheVariants.{Nothing, Open, Put}
+use Rattle.sheet.specs.declared.reading.Deed.TheVariants.{Open, Put}
 use Rattle.text.specs.Tokens.{Stream, tok, end, bad, num, eol, between, tokens_from}
 use Rattle.cube.specs.Slots.{Cube, Cover, blank_cube}
 use Rattle.text.specs.Numerals.{size_in, minus_in}
-use Rattle.sheet.specs.Reading.{act, run, refuse}
+use Rattle.sheet.specs.Reading.{act, run, refuse, on_line}
 use Rattle.sheet.specs.Sheet.{Each, Numeral}
 use Rattle.text.specs.Words.{Word, onto}
 use Rattle.sheet.proofs.Worded.{Line, Number, Alone, Rising, ticked, filling, Rows, Counted, Lines, WordedAreRead}
 use Rattle.sheet.proofs.Splits.{here, below, ahead, after, Clean, each_onto, each_off, lexes, lines_are}
 
-act_last : (cs : Cover) (c : Cube) (k : ℕ) (v : Slot) → act (Put k v) (cs ++ c ∷ []) ≡ cs ++ set c (k - 1) v ∷ []
+act_last : (cs : Cover) (c : Cube) (k : ℕ) (v : Slot) → act (Some (Put k v)) (cs ++ c ∷ []) ≡ cs ++ set c (k - 1) v ∷ []
 act_last cs c k v =
     let l : length (cs ++ c ∷ []) - 1 ≡ length cs = simp length_push (omega arith) in
     let g : get_or (cs ++ c ∷ []) (length cs) [] ≡ c = get_or_at cs c [] [] (length cs) refl in
@@ -27,7 +27,7 @@ act_last cs c k v =
 -- the literals of a line, put into the last cube one by one
 abbrev puts : Line → Cover → Cover
 puts [] cs = cs
-puts (w ∷ ws) cs = puts ws (act (Put (size_in w) (ticked w)) cs)
+puts (w ∷ ws) cs = puts ws (act (Some (Put (size_in w) (ticked w))) cs)
 
 puts_last : (l : Line) (cs : Cover) (c : Cube) → puts l (cs ++ c ∷ []) ≡ cs ++ filling l c ∷ []
 puts_last [] cs c = refl
@@ -38,8 +38,8 @@ abbrev Rest : ℕ → ℕ → ReaderState → Cover → Line → List Line → C
 Rest n most BeforeLine1 cs l ls cubes out = (out ≡ cs ++ cubes) × Lines n most (onto l ls) cubes
 Rest n most (BeforeLine2 false) cs l ls cubes out = (out ≡ cs ++ cubes) × (l ≡ []) × Counted n most ls cubes
 Rest n most (BeforeLine2 true) cs l ls cubes out = (out ≡ cs ++ cubes) × Counted n most (onto l ls) cubes
-Rest n most (AmongCubes left true literals last) cs l ls cubes out = (out ≡ cs ++ cubes) × (length cubes ≡ left) × Rows n (onto l ls) cubes
-Rest n most (AmongCubes left false literals last) cs l ls cubes out = (out ≡ puts l cs ++ cubes) × (length l ≡ literals) × Rising n last l × (length cubes ≡ left) × Rows n ls cubes
+Rest n most (AmongCubes left None) cs l ls cubes out = (out ≡ cs ++ cubes) × (length cubes ≡ left) × Rows n (onto l ls) cubes
+Rest n most (AmongCubes left (Some line)) cs l ls cubes out = (out ≡ puts l cs ++ cubes) × (length l ≡ line.left) × Rising n line.last l × (length cubes ≡ left) × Rows n ls cubes
 
 record Comes (n most : ℕ) (s : ReaderState) (cs : Cover) (z : Stream) (out : Cover) : Type 0 where
   pub clean : Clean z
@@ -49,31 +49,31 @@ record Comes (n most : ℕ) (s : ReaderState) (cs : Cover) (z : Stream) (out : C
 pub err_not_ok : {X Y : Type 0} {f : X} {y : Y} → Err f ≡ Ok y → ⊥
 err_not_ok e = let z : ◌≡◌ {A = ℕ} 0 1 = cc in omega arith
 
-abbrev go : ℕ → ℕ → Cover → Stream → Result (ReaderState × Deed) Fault → Result Cover Fault
+abbrev go : ℕ → ℕ → Cover → Stream → Result (ReaderState × Option Deed) Fault → Result Cover Fault
 go n most cs s x = elim x [ Ok p ↦ run n most p.0 (act p.1 cs) s | Err f ↦ Err f ]
 
 -- what is left of a step after its first tests
-abbrev opening : ℕ → ℕ → Word → Result (ReaderState × Deed) Fault
-opening n left w = Ok (AmongCubes (left - 1) false (size_in w) 0, Open)
+abbrev opening : ℕ → ℕ → Word → Result (ReaderState × Option Deed) Fault
+opening n left w = Ok (on_line (left - 1) (size_in w) 0, Some Open)
 
-abbrev opening? : ℕ → ℕ → Word → ℕ → Result (ReaderState × Deed) Fault
+abbrev opening? : ℕ → ℕ → Word → ℕ → Result (ReaderState × Option Deed) Fault
 opening? n left w at = cond (minus_in w || ltb n (size_in w)) (refuse 32 at) (opening n left w)
 
-abbrev putting : ℕ → ℕ → Word → Result (ReaderState × Deed) Fault
-putting left literals w = Ok (AmongCubes left false (literals - 1) (size_in w), Put (size_in w) (ticked w))
+abbrev putting : ℕ → ℕ → Word → Result (ReaderState × Option Deed) Fault
+putting left literals w = Ok (on_line left (literals - 1) (size_in w), Some (Put (size_in w) (ticked w)))
 
-abbrev rising? : ℕ → ℕ → ℕ → Word → ℕ → Result (ReaderState × Deed) Fault
+abbrev rising? : ℕ → ℕ → ℕ → Word → ℕ → Result (ReaderState × Option Deed) Fault
 rising? left literals last w at = cond (leb (size_in w) last) (refuse 34 at) (putting left literals w)
 
-abbrev putting? : ℕ → ℕ → ℕ → ℕ → Word → ℕ → Result (ReaderState × Deed) Fault
+abbrev putting? : ℕ → ℕ → ℕ → ℕ → Word → ℕ → Result (ReaderState × Option Deed) Fault
 putting? n left literals last w at = cond (eqb (size_in w) 0 || ltb n (size_in w)) (refuse 33 at) (rising? left literals last w at)
 
 module _ (n most : ℕ) (cs : Cover) (s : Stream) (out : Cover) where
-  passes : (b : Bool) (code at : ℕ) (x : Result (ReaderState × Deed) Fault) → go n most cs s (cond b (refuse code at) x) ≡ Ok out → (b ≡ false) × (go n most cs s x ≡ Ok out)
+  passes : (b : Bool) (code at : ℕ) (x : Result (ReaderState × Option Deed) Fault) → go n most cs s (cond b (refuse code at) x) ≡ Ok out → (b ≡ false) × (go n most cs s x ≡ Ok out)
   passes true code at x e = absurd (err_not_ok e)
   passes false code at x e = (refl, e)
 
-  passed : (b : Bool) (code at : ℕ) (x : Result (ReaderState × Deed) Fault) → b ≡ false → go n most cs s x ≡ Ok out → go n most cs s (cond b (refuse code at) x) ≡ Ok out
+  passed : (b : Bool) (code at : ℕ) (x : Result (ReaderState × Option Deed) Fault) → b ≡ false → go n most cs s x ≡ Ok out → go n most cs s (cond b (refuse code at) x) ≡ Ok out
   passed true code at x f e = let z : ◌≡◌ {A = ℕ} 0 1 = cc in absurd (omega arith)
   passed false code at x f e = e
 
@@ -112,7 +112,7 @@ some k e = grind (arith, nat_tests)
 none : (k : ℕ) → ltb 0 k ≡ false → k ≡ 0
 none k e = grind (arith, nat_tests)
 
-zero_is : (k : ℕ) → (eqb k 0 && true) ≡ true → 0 ≡ k
+zero_is : (k : ℕ) → eqb k 0 ≡ true → 0 ≡ k
 zero_is k e = grind (arith, nat_tests)
 
 both_zero : (j k : ℕ) → (eqb j 0 && eqb k 0) ≡ true → (0 ≡ j) × (0 ≡ k)
@@ -130,12 +130,12 @@ accepted : (n most : ℕ) (s : ReaderState) (cs : Cover) (z : Stream) (out : Cov
 accepted n most s cs (bad code at) out e = absurd (err_not_ok e)
 accepted n most BeforeLine1 cs (end at) out e = absurd (err_not_ok e)
 accepted n most (BeforeLine2 fresh) cs (end at) out e = absurd (err_not_ok e)
-accepted n most (AmongCubes left true literals last) cs (end at) out e =
-    let q = stops (eqb left 0 && true) cs out _ e in
+accepted n most (AmongCubes left None) cs (end at) out e =
+    let q = stops (eqb left 0) cs out _ e in
     record { clean = tt; cubes = []; rest = (sym q.1 ∙ sym (append-nil cs), zero_is left q.0, tt) }
-accepted n most (AmongCubes left false literals last) cs (end at) out e =
-    let q = stops (eqb left 0 && eqb literals 0) cs out _ e in
-    let o = both_zero left literals q.0 in
+accepted n most (AmongCubes left (Some line)) cs (end at) out e =
+    let q = stops (eqb left 0 && eqb line.left 0) cs out _ e in
+    let o = both_zero left line.left q.0 in
     record { clean = tt; cubes = []; rest = (sym q.1 ∙ sym (append-nil cs), o.1, tt, o.0, tt) }
 accepted n most BeforeLine1 cs (tok (num w at) z) out e =
     let q = passes n most cs z out _ 30 at _ e in
@@ -144,15 +144,15 @@ accepted n most BeforeLine1 cs (tok (num w at) z) out e =
     record { clean = r.clean; cubes = r.cubes; rest = (r.rest.0, (alone_of w (ahead z) n r.rest.1 k, r.rest.2)) }
 accepted n most (BeforeLine2 false) cs (tok (num w at) z) out e = absurd (err_not_ok e)
 accepted n most (BeforeLine2 true) cs (tok (num w at) z) out e =
-    let q = passes n most cs z out (minus_in w || ltb most (size_in w)) 31 at (Ok (AmongCubes (size_in w) false 0 0, Nothing)) e in
-    let r = accepted n most (AmongCubes (size_in w) false 0 0) cs z out q.1 in
+    let q = passes n most cs z out (minus_in w || ltb most (size_in w)) 31 at (Ok (on_line (size_in w) 0 0, None)) e in
+    let r = accepted n most (on_line (size_in w) 0 0) cs z out q.1 in
     let k = up_to (minus_in w) (size_in w) most q.0 in
     let l = empty_is (ahead z) r.rest.1 in
     record { clean = r.clean; cubes = r.cubes; rest = (r.rest.0 ∙ ap (λ x. puts x cs ++ r.cubes) l, (alone_of w (ahead z) (length r.cubes) l (k.0, sym r.rest.3), omega (arith, r.rest.3, k.1), r.rest.4)) }
-accepted n most (AmongCubes left true literals last) cs (tok (num w at) z) out e =
+accepted n most (AmongCubes left None) cs (tok (num w at) z) out e =
     let q = passes n most cs z out (eqb left 0) 35 at (opening? n left w at) e in
     let q' = passes n most cs z out (minus_in w || ltb n (size_in w)) 32 at (opening n left w) q.1 in
-    let r = accepted n most (AmongCubes (left - 1) false (size_in w) 0) (cs ++ blank_cube ∷ []) z out q'.1 in
+    let r = accepted n most (on_line (left - 1) (size_in w) 0) (cs ++ blank_cube ∷ []) z out q'.1 in
     let k = up_to (minus_in w) (size_in w) n q'.0 in
     let left_is : suc (length r.cubes) ≡ left = omega (arith, some left q.0, r.rest.3) in
     record {
@@ -160,15 +160,15 @@ accepted n most (AmongCubes left true literals last) cs (tok (num w at) z) out e
       cubes = filling (ahead z) blank_cube ∷ r.cubes;
       rest = (r.rest.0 ∙ ap (λ x. x ++ r.cubes) (puts_last (ahead z) cs blank_cube) ∙ append_assoc cs (filling (ahead z) blank_cube ∷ []) r.cubes, left_is, (((k.0, sym r.rest.1), r.rest.2, refl), r.rest.4));
     }
-accepted n most (AmongCubes left false literals last) cs (tok (num w at) z) out e =
+accepted n most (AmongCubes left (Some line)) cs (tok (num w at) z) out e =
     let v = size_in w in
-    let q = passes n most cs z out (eqb literals 0) 35 at (putting? n left literals last w at) e in
-    let q' = passes n most cs z out (eqb v 0 || ltb n v) 33 at (rising? left literals last w at) q.1 in
-    let q'' = passes n most cs z out (leb v last) 34 at (putting left literals w) q'.1 in
-    let r = accepted n most (AmongCubes left false (literals - 1) v) (act (Put v (ticked w)) cs) z out q''.1 in
+    let q = passes n most cs z out (eqb line.left 0) 35 at (putting? n left line.left line.last w at) e in
+    let q' = passes n most cs z out (eqb v 0 || ltb n v) 33 at (rising? left line.left line.last w at) q.1 in
+    let q'' = passes n most cs z out (leb v line.last) 34 at (putting left line.left w) q'.1 in
+    let r = accepted n most (on_line left (line.left - 1) v) (act (Some (Put v (ticked w))) cs) z out q''.1 in
     let k = variable_in true v n q'.0 in
-    let all : suc (length (ahead z)) ≡ literals = omega (arith, some literals q.0, r.rest.1) in
-    record { clean = r.clean; cubes = r.cubes; rest = (r.rest.0, all, (above v last q''.0, k.1, r.rest.2), r.rest.3, r.rest.4) }
+    let all : suc (length (ahead z)) ≡ line.left = omega (arith, some line.left q.0, r.rest.1) in
+    record { clean = r.clean; cubes = r.cubes; rest = (r.rest.0, all, (above v line.last q''.0, k.1, r.rest.2), r.rest.3, r.rest.4) }
 accepted n most BeforeLine1 cs (tok (eol at) z) out e =
     let r = accepted n most BeforeLine1 cs z out e in
     record { clean = r.clean; cubes = r.cubes; rest = r.rest }
@@ -178,13 +178,13 @@ accepted n most (BeforeLine2 false) cs (tok (eol at) z) out e =
 accepted n most (BeforeLine2 true) cs (tok (eol at) z) out e =
     let r = accepted n most (BeforeLine2 true) cs z out e in
     record { clean = r.clean; cubes = r.cubes; rest = r.rest }
-accepted n most (AmongCubes left true literals last) cs (tok (eol at) z) out e =
-    let r = accepted n most (AmongCubes left true 0 0) cs z out e in
+accepted n most (AmongCubes left None) cs (tok (eol at) z) out e =
+    let r = accepted n most (AmongCubes left None) cs z out e in
     record { clean = r.clean; cubes = r.cubes; rest = r.rest }
-accepted n most (AmongCubes left false literals last) cs (tok (eol at) z) out e =
+accepted n most (AmongCubes left (Some line)) cs (tok (eol at) z) out e =
     let q = passes n most cs z out _ 36 at _ e in
-    let r = accepted n most (AmongCubes left true 0 0) cs z out q.1 in
-    record { clean = r.clean; cubes = r.cubes; rest = (r.rest.0, sym (none literals q.0), tt, r.rest.1, r.rest.2) }
+    let r = accepted n most (AmongCubes left None) cs z out q.1 in
+    record { clean = r.clean; cubes = r.cubes; rest = (r.rest.0, sym (none line.left q.0), tt, r.rest.1, r.rest.2) }
 
 alone_is : (w : Word) (l : Line) (k : ℕ) → Alone (w ∷ l) k → (l ≡ []) × Number w k
 alone_is w [] k h = (refl, h)
@@ -194,7 +194,7 @@ rising_fits : (n last : ℕ) (l : Line) → Rising n last l → last ≤ n → l
 rising_fits n last [] h le = omega arith
 rising_fits n last (w ∷ l) h le = omega (arith, h.0, rising_fits n (size_in w) l h.2 h.1)
 
-is_zero : (k : ℕ) → 0 ≡ k → (eqb k 0 && true) ≡ true
+is_zero : (k : ℕ) → 0 ≡ k → eqb k 0 ≡ true
 is_zero k e = grind (arith, nat_tests)
 
 not_zero : (j k : ℕ) → suc j ≡ k → eqb k 0 ≡ false
@@ -214,41 +214,41 @@ reached n most s cs (bad code at) cubes out c r = absurd c
 reached n most BeforeLine1 cs (end at) cubes out c r = absurd r.1
 reached n most (BeforeLine2 false) cs (end at) cubes out c r = absurd r.2
 reached n most (BeforeLine2 true) cs (end at) cubes out c r = absurd r.1
-reached n most (AmongCubes left true literals last) cs (end at) [] out c r = stopped (eqb left 0 && true) cs out _ (is_zero left r.1) r.0
-reached n most (AmongCubes left true literals last) cs (end at) (x ∷ cubes) out c r = absurd r.2
-reached n most (AmongCubes left false literals last) cs (end at) [] out c r = stopped (eqb left 0 && eqb literals 0) cs out _ (zeros left literals r.3 r.1) r.0
-reached n most (AmongCubes left false literals last) cs (end at) (x ∷ cubes) out c r = absurd r.4
+reached n most (AmongCubes left None) cs (end at) [] out c r = stopped (eqb left 0) cs out _ (is_zero left r.1) r.0
+reached n most (AmongCubes left None) cs (end at) (x ∷ cubes) out c r = absurd r.2
+reached n most (AmongCubes left (Some line)) cs (end at) [] out c r = stopped (eqb left 0 && eqb line.left 0) cs out _ (zeros left line.left r.3 r.1) r.0
+reached n most (AmongCubes left (Some line)) cs (end at) (x ∷ cubes) out c r = absurd r.4
 reached n most BeforeLine1 cs (tok (num w at) z) cubes out c r =
     let a = alone_is w (ahead z) n r.1.0 in
-    passed n most cs z out (minus_in w || not (eqb (size_in w) n)) 30 at (Ok (BeforeLine2 false, Nothing)) (n_is (minus_in w) (size_in w) n a.1.0 a.1.1)
+    passed n most cs z out (minus_in w || not (eqb (size_in w) n)) 30 at (Ok (BeforeLine2 false, None)) (n_is (minus_in w) (size_in w) n a.1.0 a.1.1)
     (reached n most (BeforeLine2 false) cs z cubes out c (r.0, a.0, r.1.1))
 reached n most (BeforeLine2 false) cs (tok (num w at) z) cubes out c r = let o : ◌≡◌ {A = ℕ} 0 1 = cc r.1 in absurd (omega arith)
 reached n most (BeforeLine2 true) cs (tok (num w at) z) cubes out c r =
     let a = alone_is w (ahead z) (length cubes) r.1.0 in
-    passed n most cs z out (minus_in w || ltb most (size_in w)) 31 at (Ok (AmongCubes (size_in w) false 0 0, Nothing)) (to_up (minus_in w) (size_in w) most a.1.0 (omega (arith, a.1.1, r.1.1)))
-    (reached n most (AmongCubes (size_in w) false 0 0) cs z cubes out c (r.0 ∙ ap (λ x. puts x cs ++ cubes) (sym a.0), ap length a.0, subst (Rising n 0) (sym a.0) tt, sym a.1.1, r.1.2))
-reached n most (AmongCubes left true literals last) cs (tok (num w at) z) [] out c r = absurd r.2
-reached n most (AmongCubes left true literals last) cs (tok (num w at) z) (x ∷ cubes) out c r =
+    passed n most cs z out (minus_in w || ltb most (size_in w)) 31 at (Ok (on_line (size_in w) 0 0, None)) (to_up (minus_in w) (size_in w) most a.1.0 (omega (arith, a.1.1, r.1.1)))
+    (reached n most (on_line (size_in w) 0 0) cs z cubes out c (r.0 ∙ ap (λ x. puts x cs ++ cubes) (sym a.0), ap length a.0, subst (Rising n 0) (sym a.0) tt, sym a.1.1, r.1.2))
+reached n most (AmongCubes left None) cs (tok (num w at) z) [] out c r = absurd r.2
+reached n most (AmongCubes left None) cs (tok (num w at) z) (x ∷ cubes) out c r =
     let row = r.2.0 in
     let fits = rising_fits n 0 (ahead z) row.1 (omega arith) in
     let o : out ≡ puts (ahead z) (cs ++ blank_cube ∷ []) ++ cubes = r.0 ∙ ap (λ y. cs ++ y ∷ cubes) row.2 ∙ sym (ap (λ y. y ++ cubes) (puts_last (ahead z) cs blank_cube) ∙ append_assoc cs (filling (ahead z) blank_cube ∷ []) cubes) in
     let one : length cubes ≡ left - 1 = omega (arith, r.1) in
     passed n most cs z out (eqb left 0) 35 at (opening? n left w at) (not_zero (length cubes) left r.1)
     (passed n most cs z out (minus_in w || ltb n (size_in w)) 32 at (opening n left w) (to_up (minus_in w) (size_in w) n row.0.0 (omega (arith, row.0.1)))
-    (reached n most (AmongCubes (left - 1) false (size_in w) 0) (cs ++ blank_cube ∷ []) z cubes out c (o, sym row.0.1, row.1, one, r.2.1)))
-reached n most (AmongCubes left false literals last) cs (tok (num w at) z) cubes out c r =
+    (reached n most (on_line (left - 1) (size_in w) 0) (cs ++ blank_cube ∷ []) z cubes out c (o, sym row.0.1, row.1, one, r.2.1)))
+reached n most (AmongCubes left (Some line)) cs (tok (num w at) z) cubes out c r =
     let v = size_in w in
-    let one : length (ahead z) ≡ literals - 1 = omega (arith, r.1) in
-    passed n most cs z out (eqb literals 0) 35 at (putting? n left literals last w at) (not_zero (length (ahead z)) literals r.1)
-    (passed n most cs z out (eqb v 0 || ltb n v) 33 at (rising? left literals last w at) (in_variable true v n (omega (arith, r.2.0)) r.2.1)
-    (passed n most cs z out (leb v last) 34 at (putting left literals w) (below_it v last r.2.0)
-    (reached n most (AmongCubes left false (literals - 1) v) (act (Put v (ticked w)) cs) z cubes out c (r.0, one, r.2.2, r.3, r.4))))
+    let one : length (ahead z) ≡ line.left - 1 = omega (arith, r.1) in
+    passed n most cs z out (eqb line.left 0) 35 at (putting? n left line.left line.last w at) (not_zero (length (ahead z)) line.left r.1)
+    (passed n most cs z out (eqb v 0 || ltb n v) 33 at (rising? left line.left line.last w at) (in_variable true v n (omega (arith, r.2.0)) r.2.1)
+    (passed n most cs z out (leb v line.last) 34 at (putting left line.left w) (below_it v line.last r.2.0)
+    (reached n most (on_line left (line.left - 1) v) (act (Some (Put v (ticked w))) cs) z cubes out c (r.0, one, r.2.2, r.3, r.4))))
 reached n most BeforeLine1 cs (tok (eol at) z) cubes out c r = reached n most BeforeLine1 cs z cubes out c r
 reached n most (BeforeLine2 false) cs (tok (eol at) z) cubes out c r = reached n most (BeforeLine2 true) cs z cubes out c (r.0, r.2)
 reached n most (BeforeLine2 true) cs (tok (eol at) z) cubes out c r = reached n most (BeforeLine2 true) cs z cubes out c r
-reached n most (AmongCubes left true literals last) cs (tok (eol at) z) cubes out c r = reached n most (AmongCubes left true 0 0) cs z cubes out c r
-reached n most (AmongCubes left false literals last) cs (tok (eol at) z) cubes out c r =
-    passed n most cs z out (ltb 0 literals) 36 at (Ok (AmongCubes left true 0 0, Nothing)) (not_some literals r.1) (reached n most (AmongCubes left true 0 0) cs z cubes out c (r.0, r.3, r.4))
+reached n most (AmongCubes left None) cs (tok (eol at) z) cubes out c r = reached n most (AmongCubes left None) cs z cubes out c r
+reached n most (AmongCubes left (Some line)) cs (tok (eol at) z) cubes out c r =
+    passed n most cs z out (ltb 0 line.left) 36 at (Ok (AmongCubes left None, None)) (not_some line.left r.1) (reached n most (AmongCubes left None) cs z cubes out c (r.0, r.3, r.4))
 
 pub long_not_ok : (b : Bool) (f : Fault) (x : Result Cover Fault) (out : Cover) → cond b (Err f) x ≡ Ok out → (b ≡ false) × (x ≡ Ok out)
 long_not_ok true f x out e = absurd (err_not_ok e)

@@ -1,7 +1,7 @@
 -- How long the text of a sheet can be, and that the texts of covers are sheets.
-use Rattle.std.proofs.Common.{◌≡◌, ℕ, ◌+◌, ◌*◌, ◌<◌, ◌≤◌, [], ◌∷◌, ◌++◌, map, length, decimal, ◌∙◌, subst, arith}
+use Rattle.std.proofs.Common.{◌≡◌, ℕ, ◌+◌, ◌*◌, ◌<◌, ◌≤◌, List, [], ◌∷◌, ◌++◌, map, length, decimal, ◌∙◌, subst, arith}
 use Rattle.std.proofs.lemmas.Fmt.{length-decimal-le}
-use Rattle.std.proofs.lemmas.List.{length-append}
+use Rattle.std.proofs.lemmas.List.{length-append, length-map}
 use Rattle.cube.specs.declared.slot.Slot.{Slot}
 use Rattle.cube.specs.declared.slot.Slot.TheVariants.{No, Yes, Blank}
 use Rattle.cube.specs.Slots.{Cube, Cover, blank_above}
@@ -63,3 +63,14 @@ pub written_is_a_sheet : (n most : ℕ) (cs : Cover) → n ≤ 20 → length cs 
 written_is_a_sheet n most cs top few twenty above fits =
     let short = sheet_short n cs top (omega arith) twenty in
     (sheets_are_read n most (write_sheet n cs) cs).0 (sheets_return n most cs top fits (omega arith) (subst (Good n) above (good_each n cs twenty)) (omega arith))
+
+twenty_above : {X : Type 0} (n : ℕ) (f : X → Cube) (xs : List X) → ((x : X) → length (f x) ≡ 20) → Each (λ c. length c ≡ 20) (map (blank_above n) (map f xs))
+twenty_above n f [] h = tt
+twenty_above n f (x ∷ xs) h = (length_above n (f x) ∙ h x, twenty_above n f xs h)
+
+-- the text of at most 256 cubes of a notation has room in a sheet
+pub above_short : {X : Type 0} (n : ℕ) (f : X → Cube) (xs : List X) → n ≤ 20 → length xs ≤ 256 → ((x : X) → length (f x) ≡ 20) → length (write_sheet n (map (blank_above n) (map f xs))) ≤ 65535
+above_short n f xs top few twenty =
+    let l = length-map (map f xs) (blank_above n) in
+    let l' = length-map xs f in
+    omega (arith, sheet_short n (map (blank_above n) (map f xs)) top (omega arith) (twenty_above n f xs twenty))

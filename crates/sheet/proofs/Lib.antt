@@ -8,3 +8,4 @@ pub mod Lines
 pub mod Trips
 pub mod Wrotes
 pub mod Lengths
+pub mod Steps

@@ -1,10 +1,13 @@
 -- The text of a sheet, piece by piece.
-use Rattle.std.proofs.Common.{◌≡◌, ℕ, zero, suc, ◌+◌, ◌<◌, ◌≤◌, List, [], ◌∷◌, ◌++◌, map, length, get_or, take, decimal, sym, refl, ap, ◌∙◌, append_assoc, append-nil, add-zero, arith, length-append, length-take-le}
+use Rattle.std.proofs.Common.{◌≡◌, ◌≢◌, ℕ, zero, suc, ◌+◌, ◌-◌, ◌<◌, ◌≤◌, List, [], ◌∷◌, ◌++◌, map, length, get_or, take, decimal, sym, refl, ap, ◌∙◌, append_assoc, append-nil, add-zero, arith, length-append, length-take-le}
 use Rattle.std.proofs.lemmas.List.{take_more, map_push}
 use Rattle.cube.specs.declared.slot.Slot.{Slot}
 use Rattle.cube.specs.declared.slot.Slot.TheVariants.{No, Yes, Blank}
 use Rattle.cube.specs.Slots.{Cube, Cover, blank_above}
-use Rattle.sheet.specs.Writing.{one, filled, write_literal, write_literals, write_cube, write_cubes, write_sheet}
+use Rattle.text.specs.Output.{Puts}
+use Rattle.text.specs.declared.output.Writer.{Writer}
+use Rattle.text.proofs.Overlays.{puts_then, puts_as}
+use Rattle.sheet.specs.Writing.{filled, write_literal, write_literals, write_cube, write_cubes, write_sheet}
 
 literals_push : (k : ℕ) (c : Cube) (v : Slot) → write_literals k (c ++ v ∷ []) ≡ write_literals k c ++ write_literal (k + length c) v
 literals_push k [] v = append-nil (write_literal k v) ∙ ap (λ i. write_literal i v) (sym (add-zero k))
@@ -13,13 +16,19 @@ literals_push k (x ∷ c) v =
     ap (λ z. write_literal k x ++ z) (literals_push (k + 1) c v ∙ ap (λ i. write_literals (k + 1) c ++ write_literal i v) e)
     ∙ sym (append_assoc (write_literal k x) (write_literals (k + 1) c) (write_literal (k + suc (length c)) v))
 
-pub literals_more : (c : Cube) (i : ℕ) → i < length c → write_literals 1 (take i c) ++ write_literal (i + 1) (get_or c i Blank) ≡ write_literals 1 (take (i + 1) c)
+literals_more : (c : Cube) (i : ℕ) → i < length c → write_literals 1 (take i c) ++ write_literal (i + 1) (get_or c i Blank) ≡ write_literals 1 (take (i + 1) c)
 literals_more c i h =
     let l : length (take i c) ≡ i = length-take-le i c (omega arith) in
     let e : i + 1 ≡ 1 + length (take i c) = omega arith in
     ap (λ j. write_literals 1 (take i c) ++ write_literal j (get_or c i Blank)) e ∙ sym (literals_push 1 (take i c) (get_or c i Blank)) ∙ ap (write_literals 1) (sym (take_more c i Blank h))
 
-filled_push : (c : Cube) (v : Slot) → filled (c ++ v ∷ []) ≡ filled c + one v
+-- the literal of the variable v, after those of the variables before it
+pub literal_next : {w m w' : Writer} (c : Cube) (v k : ℕ) (s : Slot) → 0 < v → v ≤ length c → k ≡ v → s ≡ get_or c (v - 1) Blank → Puts w (write_literals 1 (take (v - 1) c)) m → Puts m (write_literal v s) w' → Puts w (write_literals 1 (take k c)) w'
+literal_next c v k s some fits e is a b =
+    let i : v - 1 + 1 ≡ v = omega arith in
+    puts_as (ap (λ x. write_literals 1 (take (v - 1) c) ++ write_literal v x) is ∙ ap (λ j. write_literals 1 (take (v - 1) c) ++ write_literal j (get_or c (v - 1) Blank)) (sym i) ∙ literals_more c (v - 1) (omega arith) ∙ ap (λ j. write_literals 1 (take j c)) (i ∙ sym e)) (puts_then a b)
+
+filled_push : (c : Cube) (v : Slot) → filled (c ++ v ∷ []) ≡ filled c + filled (v ∷ [])
 filled_push [] No = refl
 filled_push [] Yes = refl
 filled_push [] Blank = refl
@@ -27,8 +36,27 @@ filled_push (No ∷ c) v = omega (arith, filled_push c v)
 filled_push (Yes ∷ c) v = omega (arith, filled_push c v)
 filled_push (Blank ∷ c) v = filled_push c v
 
-pub filled_more : (c : Cube) (i : ℕ) → i < length c → filled (take (i + 1) c) ≡ filled (take i c) + one (get_or c i Blank)
+filled_more : (c : Cube) (i : ℕ) → i < length c → filled (take (i + 1) c) ≡ filled (take i c) + filled (get_or c i Blank ∷ [])
 filled_more c i h = ap filled (take_more c i Blank h) ∙ filled_push (take i c) (get_or c i Blank)
+
+-- as many as before the variable v, and one more if its slot is not Blank
+pub filled_next : (c : Cube) (v : ℕ) (s : Slot) → 0 < v → v ≤ length c → s ≡ get_or c (v - 1) Blank → filled (take v c) ≡ filled (take (v - 1) c) + filled (s ∷ [])
+filled_next c v s some fits is =
+    let i : v - 1 + 1 ≡ v = omega arith in
+    ap (λ j. filled (take j c)) (sym i) ∙ filled_more c (v - 1) (omega arith) ∙ ap (λ x. filled (take (v - 1) c) + filled (x ∷ [])) (sym is)
+
+pub filled_one : (s : Slot) → s ≢ Blank → filled (s ∷ []) ≡ 1
+filled_one No h = refl
+filled_one Yes h = refl
+filled_one Blank h = absurd (h refl)
+
+pub filled_none : (s : Slot) → s ≡ Blank → filled (s ∷ []) ≡ 0
+filled_none s e = ap (λ x. filled (x ∷ [])) e
+
+pub filled_few : (s : Slot) → filled (s ∷ []) ≤ 1
+filled_few No = omega arith
+filled_few Yes = omega arith
+filled_few Blank = omega arith
 
 no_literals : (k : ℕ) (c : Cube) → write_literals k (blank_above zero c) ≡ []
 no_literals k [] = refl

@@ -1,5 +1,5 @@
 -- How a reading goes on at each token.
-use Rattle.std.proofs.Common.{◌≡◌, ℕ, zero, suc, ◌-◌, ◌<◌, ◌≤◌, List, [], ◌∷◌, length, get_or, take, set, IfOk, Ok, Err, Result, sym, refl, ap, ◌∙◌, subst, arith, length-take-le, get_or-take}
+use Rattle.std.proofs.Common.{◌≡◌, ℕ, zero, suc, ◌-◌, ◌<◌, ◌≤◌, List, [], ◌∷◌, length, get_or, take, set, IfOk, Some, Ok, Err, Option, Result, sym, refl, ap, ◌∙◌, subst, arith, length-take-le, get_or-take}
 use Rattle.cube.specs.Refusals.{Fault, fault_of, told}
 use Rattle.cube.specs.declared.refusal.Refusal.{Refusal}
 use Rattle.sheet.specs.declared.reading.ReaderState.TheVariants.{BeforeLine1}
@@ -18,14 +18,14 @@ take_set_in (suc n) [] i y = refl
 take_set_in (suc n) (x ∷ xs) zero y = refl
 take_set_in (suc n) (x ∷ xs) (suc i) y = ap (λ l. x ∷ l) (take_set_in n xs i y)
 
-pub put_last : (xs : Cover) (c k : ℕ) (v : Slot) → 0 < c → c ≤ length xs → take c (set xs (c - 1) (set (get_or xs (c - 1) []) (k - 1) v)) ≡ act (Put k v) (take c xs)
+pub put_last : (xs : Cover) (c k : ℕ) (v : Slot) → 0 < c → c ≤ length xs → take c (set xs (c - 1) (set (get_or xs (c - 1) []) (k - 1) v)) ≡ act (Some (Put k v)) (take c xs)
 put_last xs c k v some fits =
     let l : length (take c xs) ≡ c = length-take-le c xs fits in
     let g : get_or (take c xs) (c - 1) [] ≡ get_or xs (c - 1) [] = get_or-take c xs (c - 1) [] (omega arith) in
     take_set_in c xs (c - 1) (set (get_or xs (c - 1) []) (k - 1) v) ∙ rw (l, g)
 
 module _ (n most : ℕ) (s : ReaderState) (cs : Cover) where
-  pub run_ok : (z : Stream) (t : Tok) (rest : Stream) (p : ReaderState × Deed) → z ≡ tok t rest → Ok p ≡ step_of n most s t → run n most s cs z ≡ run n most p.0 (act p.1 cs) rest
+  pub run_ok : (z : Stream) (t : Tok) (rest : Stream) (p : ReaderState × Option Deed) → z ≡ tok t rest → Ok p ≡ step_of n most s t → run n most s cs z ≡ run n most p.0 (act p.1 cs) rest
   run_ok z t rest p e h = ap (run n most s cs) e ∙ rw (run, ← h)
 
   pub run_err : (z : Stream) (t : Tok) (rest : Stream) (f : Fault) → z ≡ tok t rest → Err f ≡ step_of n most s t → run n most s cs z ≡ Err f
@@ -45,5 +45,5 @@ module _ (n most : ℕ) (s : ReaderState) (cs : Cover) (xs text : List ℕ) (p :
   pub refused_token : (f : Refusal) → tokens_from xs p ≡ bad (fault_of f).number (fault_of f).offset → read_sheet n most text ≡ Err (fault_of f)
   refused_token f b = come ∙ ap (run n most s cs) b
 
-  pub refused_step : (t : Tok) (rest : Stream) (r : Result (ReaderState × Deed) Refusal) (f : Refusal) → tokens_from xs p ≡ tok t rest → told r ≡ step_of n most s t → r ≡ Err f → read_sheet n most text ≡ Err (fault_of f)
+  pub refused_step : (t : Tok) (rest : Stream) (r : Result (ReaderState × Option Deed) Refusal) (f : Refusal) → tokens_from xs p ≡ tok t rest → told r ≡ step_of n most s t → r ≡ Err f → read_sheet n most text ≡ Err (fault_of f)
   refused_step t rest r f b v e = come ∙ run_err n most s cs (tokens_from xs p) t rest (fault_of f) b (ap told (sym e) ∙ v)

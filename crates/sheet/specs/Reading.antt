@@ -1,5 +1,5 @@
 -- What a text gives: its cubes, or the first fault.
-use Rattle.std.specs.Prelude.{◌≡◌, ℕ, ◌-◌, Bool, true, false, cond, not, ◌&&◌, ◌||◌, List, [], ◌∷◌, ◌++◌, length, take, Ok, Err, Result, ◌==◌, nat_le, nat_lt, slice_index_or, slice_set}
+use Rattle.std.specs.Prelude.{◌≡◌, ℕ, ◌-◌, Bool, true, false, cond, not, ◌&&◌, ◌||◌, List, [], ◌∷◌, ◌++◌, length, take, Some, None, Ok, Err, Option, Result, ◌==◌, nat_le, nat_lt, slice_index_or, slice_set}
 use Rattle.cube.specs.declared.refusal.Refusal.{Refusal}
 use Rattle.cube.specs.declared.slot.Slot.TheVariants.{No, Yes}
 use Rattle.cube.specs.Refusals.{Fault, fault, fault_of}
@@ -9,35 +9,41 @@ use Rattle.text.specs.Tokens.{Tok, num, eol, Stream, tok, end, bad, tokens_from}
 use Rattle.sheet.specs.declared.reading.ReaderState.{ReaderState}
 use Rattle.sheet.specs.declared.reading.ReaderState.TheVariants.{BeforeLine1, BeforeLine2, AmongCubes}
 use Rattle.sheet.specs.declared.reading.Deed.{Deed}
-use Rattle.sheet.specs.declared.reading.Deed.TheVariants.{Nothing, Open, Put}
+use Rattle.sheet.specs.declared.reading.Deed.TheVariants.{Open, Put}
 
-abbrev pub refuse : ℕ → ℕ → Result (ReaderState × Deed) Fault
+abbrev pub refuse : ℕ → ℕ → Result (ReaderState × Option Deed) Fault
 refuse number offset = Err (fault number offset)
 
+-- among the cubes, on a line that owes so many literals more, each above last
+abbrev pub on_line : ℕ → ℕ → ℕ → ReaderState
+on_line left literals last = AmongCubes left (Some (record { left = literals; last = last }))
+
 -- what each token asks in each state, over n variables and at most so many cubes
-abbrev pub step_of : ℕ → ℕ → ReaderState → Tok → Result (ReaderState × Deed) Fault
-step_of n most BeforeLine1 (num text at) = cond (minus_in text || not (size_in text == n)) (refuse 30 at) (Ok (BeforeLine2 false, Nothing))
+abbrev pub step_of : ℕ → ℕ → ReaderState → Tok → Result (ReaderState × Option Deed) Fault
+step_of n most BeforeLine1 (num text at) = cond (minus_in text || not (size_in text == n)) (refuse 30 at) (Ok (BeforeLine2 false, None))
 step_of n most (BeforeLine2 false) (num text at) = refuse 35 at
-step_of n most (BeforeLine2 true) (num text at) = cond (minus_in text || nat_lt most (size_in text)) (refuse 31 at) (Ok (AmongCubes (size_in text) false 0 0, Nothing))
-step_of n most (AmongCubes left true literals last) (num text at) =
-    cond (left == 0) (refuse 35 at) (cond (minus_in text || nat_lt n (size_in text)) (refuse 32 at) (Ok (AmongCubes (left - 1) false (size_in text) 0, Open)))
-step_of n most (AmongCubes left false literals last) (num text at) =
-    cond (literals == 0) (refuse 35 at) (cond (size_in text == 0 || nat_lt n (size_in text)) (refuse 33 at) (cond (nat_le (size_in text) last) (refuse 34 at) (Ok (AmongCubes left false (literals - 1) (size_in text), Put (size_in text) (cond (minus_in text) No Yes)))))
-step_of n most BeforeLine1 (eol at) = Ok (BeforeLine1, Nothing)
-step_of n most (BeforeLine2 fresh) (eol at) = Ok (BeforeLine2 true, Nothing)
-step_of n most (AmongCubes left fresh literals last) (eol at) = cond (not fresh && nat_lt 0 literals) (refuse 36 at) (Ok (AmongCubes left true 0 0, Nothing))
+step_of n most (BeforeLine2 true) (num text at) = cond (minus_in text || nat_lt most (size_in text)) (refuse 31 at) (Ok (on_line (size_in text) 0 0, None))
+step_of n most (AmongCubes left None) (num text at) =
+    cond (left == 0) (refuse 35 at) (cond (minus_in text || nat_lt n (size_in text)) (refuse 32 at) (Ok (on_line (left - 1) (size_in text) 0, Some Open)))
+step_of n most (AmongCubes left (Some line)) (num text at) =
+    cond (line.left == 0) (refuse 35 at) (cond (size_in text == 0 || nat_lt n (size_in text)) (refuse 33 at) (cond (nat_le (size_in text) line.last) (refuse 34 at) (Ok (on_line left (line.left - 1) (size_in text), Some (Put (size_in text) (cond (minus_in text) No Yes))))))
+step_of n most BeforeLine1 (eol at) = Ok (BeforeLine1, None)
+step_of n most (BeforeLine2 fresh) (eol at) = Ok (BeforeLine2 true, None)
+step_of n most (AmongCubes left None) (eol at) = Ok (AmongCubes left None, None)
+step_of n most (AmongCubes left (Some line)) (eol at) = cond (nat_lt 0 line.left) (refuse 36 at) (Ok (AmongCubes left None, None))
 
 -- what is done to the cubes that have been begun
-abbrev pub act : Deed → Cover → Cover
-act Nothing cs = cs
-act Open cs = cs ++ blank_cube ∷ []
-act (Put variable slot) cs = slice_set cs (length cs - 1) (with_slot (slice_index_or cs (length cs - 1) []) variable slot)
+abbrev pub act : Option Deed → Cover → Cover
+act None cs = cs
+act (Some Open) cs = cs ++ blank_cube ∷ []
+act (Some (Put variable slot)) cs = slice_set cs (length cs - 1) (with_slot (slice_index_or cs (length cs - 1) []) variable slot)
 
 -- a text may end here
 abbrev pub complete_in : ReaderState → Bool
 complete_in BeforeLine1 = false
 complete_in (BeforeLine2 fresh) = false
-complete_in (AmongCubes left fresh literals last) = left == 0 && (fresh || literals == 0)
+complete_in (AmongCubes left None) = left == 0
+complete_in (AmongCubes left (Some line)) = left == 0 && line.left == 0
 
 -- in state s, with the cubes cs begun
 abbrev pub run : ℕ → ℕ → ReaderState → Cover → Stream → Result Cover Fault

@@ -6,12 +6,6 @@ use Rattle.cube.specs.declared.slot.Slot.TheVariants.{No, Yes, Blank}
 use Rattle.cube.specs.Refusals.{fault, fault_of}
 use Rattle.cube.specs.Slots.{Cube, Cover}
 
--- one for a slot that is not Blank
-abbrev pub one : Slot → ℕ
-one No = 1
-one Yes = 1
-one Blank = 0
-
 -- how many slots are not Blank
 abbrev pub filled : Cube → ℕ
 filled [] = 0

@@ -1,9 +1,9 @@
 // A sheet is read token by token, and its cubes are put at the front of a table.
-ghost use Rattle.std.specs.Prelude.{◌≡◌, ℕ, ◌≤◌, map, length, take, drop, IfOk};
+ghost use Rattle.std.specs.Prelude.{◌≡◌, ℕ, ◌≤◌, true, map, length, take, drop, IfOk};
 ghost use Rattle.cube.specs.Refusals.{told};
-ghost use Rattle.text.specs.Tokens.{Short, tok_of};
+ghost use Rattle.text.specs.Tokens.{num, eol, tok_of};
 ghost use Rattle.sheet.specs.Reading.{step_of, act, complete_in, read_sheet, read_into, Reads};
-ghost use Rattle.sheet.specs.Places.{Room, counted, Ready, Within};
+ghost use Rattle.sheet.specs.Places.{counted, Ready, Within};
 ghost use Rattle.sheet.specs.Sheet.{Accepts};
 
 use cube::notation::CubeNotation;
@@ -11,187 +11,206 @@ use cube::refusal::Refusal;
 use cube::shape::Shape;
 use cube::slot::Slot;
 use cube::variable::VariableNumber;
-use text::numeral::read_numeral;
+use text::numeral::Numeral;
 use text::tokens::{Token, Tokens};
 
 pub const MOST_BYTES: usize = 65535;
 
-// Where the reader is; `fresh` while no number has been met on the line.
+/// Where the reader is.
 #[derive(Clone, Copy)]
 pub enum ReaderState {
     BeforeLine1,
-    BeforeLine2 {
-        fresh: bool,
-    },
-    AmongCubes {
-        left: u32,
-        fresh: bool,
-        literals: u32,
-        last: u32,
-    },
+    // A plain yes or no: whether line 1 has ended.
+    BeforeLine2 { fresh: bool },
+    // How many cubes are still to come, and the line that has begun.
+    AmongCubes { left: u32, line: Option<Literals> },
 }
 
-// What a token asks of the cubes that are read.
+/// How many literals the line of a cube still owes, and the last of its variables so far.
+#[derive(Clone, Copy)]
+pub struct Literals {
+    left: u32,
+    last: u32,
+}
+
+/// What a token asks of the cubes that are read.
 #[derive(Clone, Copy)]
 pub enum Deed {
-    Nothing,
     Open,
     Put { variable: u32, slot: Slot },
 }
 
-fn step(n: u32, most: u32, state: ReaderState, token: Token) -> Result<(ReaderState, Deed), Refusal>
-    requires { (n ≤ 20) × (Short (tok_of token)) }
-    ensures value { told result ≡ step_of n most state (tok_of token.entry) }
-    ensures room { (c : ℕ) → Room most state c → IfOk result (λ p. Room most p.0 (counted p.1 c)) }
-    ensures within { IfOk result (λ p. Within n p.1) }
-    ensures opened { (c : ℕ) → Room most state c → IfOk result (λ p. Ready most p.1 c) }
+impl ReaderState {
+    // Whether a text may end here.
+    fn is_complete(self) -> bool
+        ensures { result ≡ complete_in self }
+    {
+        match self {
+            ReaderState::AmongCubes { left: 0, line } => line.is_none_or(|line| line.left == 0),
+            _ => false,
+        }
+    }
+}
+
+fn step(
+    shape: Shape,
+    state: ReaderState,
+    token: Token,
+) -> Result<(ReaderState, Option<Deed>), Refusal>
+    ensures { told result ≡ step_of shape.variables.value shape.places.value state (tok_of token.entry) }
 {
     match (state, token) {
-        (ReaderState::BeforeLine1, Token::Number { text, at }) => {
-            let v = read_numeral(text);
-            if v.minus || v.size != n {
-                return Err(Refusal::NotTheVariables { at });
-            }
-            Ok((ReaderState::BeforeLine2 { fresh: false }, Deed::Nothing))
+        (ReaderState::BeforeLine1, Token::Number { numeral, at }) => on_line_1(shape, numeral, at),
+        (ReaderState::BeforeLine1, Token::LineEnd { .. }) => Ok((state, None)),
+        (ReaderState::BeforeLine2 { fresh: false }, Token::Number { at, .. }) => {
+            Err(Refusal::NumberTooMany { at })
         }
-        (ReaderState::BeforeLine1, Token::LineEnd { .. }) => Ok((
-            ReaderState::BeforeLine1,
-            Deed::Nothing,
-        )),
-        (ReaderState::BeforeLine2 { fresh: true }, Token::Number { text, at }) => {
-            let v = read_numeral(text);
-            if v.minus || v.size > most {
-                return Err(Refusal::CubesBeyondRange { at });
-            }
-            Ok((
-                ReaderState::AmongCubes {
-                    left: v.size,
-                    fresh: false,
-                    literals: 0,
-                    last: 0,
-                },
-                Deed::Nothing,
-            ))
+        (ReaderState::BeforeLine2 { fresh: true }, Token::Number { numeral, at }) => {
+            on_line_2(shape, numeral, at)
         }
-        (ReaderState::BeforeLine2 { fresh: false }, Token::Number { at, .. }) => Err(
-            Refusal::NumberTooMany { at },
-        ),
-        (ReaderState::BeforeLine2 { .. }, Token::LineEnd { .. }) => Ok((
-            ReaderState::BeforeLine2 { fresh: true },
-            Deed::Nothing,
-        )),
+        (ReaderState::BeforeLine2 { .. }, Token::LineEnd { .. }) => {
+            Ok((ReaderState::BeforeLine2 { fresh: true }, None))
+        }
+        (ReaderState::AmongCubes { left, line: None }, Token::Number { numeral, at }) => {
+            next_cube(shape, left, numeral, at)
+        }
         (
             ReaderState::AmongCubes {
                 left,
-                fresh: true,
-                ..
+                line: Some(line),
             },
-            Token::Number { text, at },
-        ) => {
-            if left == 0 {
-                return Err(Refusal::NumberTooMany { at });
-            }
-            let v = read_numeral(text);
-            if v.minus || v.size > n {
-                return Err(Refusal::LiteralsBeyondRange { at });
-            }
-            Ok((
-                ReaderState::AmongCubes {
-                    left: left - 1,
-                    fresh: false,
-                    literals: v.size,
-                    last: 0,
-                },
-                Deed::Open,
-            ))
-        }
+            Token::Number { numeral, at },
+        ) => { next_literal(shape, left, line, numeral, at) }
+        (ReaderState::AmongCubes { line: None, .. }, Token::LineEnd { .. }) => Ok((state, None)),
         (
             ReaderState::AmongCubes {
                 left,
-                fresh: false,
-                literals,
-                last,
-            },
-            Token::Number { text, at },
-        ) => {
-            if literals == 0 {
-                return Err(Refusal::NumberTooMany { at });
-            }
-            let v = read_numeral(text);
-            if v.size == 0 || v.size > n {
-                return Err(Refusal::LiteralBeyondRange { at });
-            }
-            if v.size <= last {
-                return Err(Refusal::LiteralNotRising { at });
-            }
-            let slot = if v.minus { Slot::No } else { Slot::Yes };
-            Ok((
-                ReaderState::AmongCubes {
-                    left,
-                    fresh: false,
-                    literals: literals - 1,
-                    last: v.size,
-                },
-                Deed::Put {
-                    variable: v.size,
-                    slot,
-                },
-            ))
-        }
-        (
-            ReaderState::AmongCubes {
-                left,
-                fresh,
-                literals,
-                ..
+                line: Some(line),
             },
             Token::LineEnd { at },
         ) => {
-            if !fresh && literals > 0 {
+            if line.left > 0 {
                 return Err(Refusal::EndsTooEarly { at });
             }
-            Ok((
-                ReaderState::AmongCubes {
-                    left,
-                    fresh: true,
-                    literals: 0,
-                    last: 0,
-                },
-                Deed::Nothing,
-            ))
+            Ok((ReaderState::AmongCubes { left, line: None }, None))
         }
     }
 }
 
-// Whether a text may end here.
-fn is_complete(state: ReaderState) -> bool
-    ensures { result ≡ complete_in state }
+// Line 1 holds the number of variables.
+fn on_line_1(
+    shape: Shape,
+    numeral: Numeral,
+    at: usize,
+) -> Result<(ReaderState, Option<Deed>), Refusal>
+    ensures { told result ≡ step_of shape.variables.value shape.places.value ReaderState.BeforeLine1 (num numeral.entry.text.now at) }
 {
-    match state {
+    if numeral.value() != i32::from(shape.variables()) {
+        return Err(Refusal::NotTheVariables { at });
+    }
+    Ok((ReaderState::BeforeLine2 { fresh: false }, None))
+}
+
+// Line 2 holds the number of cubes.
+fn on_line_2(
+    shape: Shape,
+    numeral: Numeral,
+    at: usize,
+) -> Result<(ReaderState, Option<Deed>), Refusal>
+    ensures { told result ≡ step_of shape.variables.value shape.places.value (ReaderState.BeforeLine2 true) (num numeral.entry.text.now at) }
+{
+    let cubes = numeral.value();
+    if cubes < 0 || cubes > i32::from(shape.places()) {
+        return Err(Refusal::CubesBeyondRange { at });
+    }
+    let line = Literals { left: 0, last: 0 };
+    Ok((
+        ReaderState::AmongCubes {
+            left: cubes as u32,
+            line: Some(line),
+        },
+        None,
+    ))
+}
+
+// The line of a cube begins with how many literals it has.
+fn next_cube(
+    shape: Shape,
+    left: u32,
+    numeral: Numeral,
+    at: usize,
+) -> Result<(ReaderState, Option<Deed>), Refusal>
+    ensures { told result ≡ step_of shape.variables.value shape.places.value (ReaderState.AmongCubes left None) (num numeral.entry.text.now at) }
+{
+    if left == 0 {
+        return Err(Refusal::NumberTooMany { at });
+    }
+    let literals = numeral.value();
+    if literals < 0 || literals > i32::from(shape.variables()) {
+        return Err(Refusal::LiteralsBeyondRange { at });
+    }
+    let line = Literals {
+        left: literals as u32,
+        last: 0,
+    };
+    Ok((
+        ReaderState::AmongCubes {
+            left: left - 1,
+            line: Some(line),
+        },
+        Some(Deed::Open),
+    ))
+}
+
+fn next_literal(
+    shape: Shape,
+    left: u32,
+    line: Literals,
+    numeral: Numeral,
+    at: usize,
+) -> Result<(ReaderState, Option<Deed>), Refusal>
+    ensures { told result ≡ step_of shape.variables.value shape.places.value (ReaderState.AmongCubes left (Some line)) (num numeral.entry.text.now at) }
+{
+    if line.left == 0 {
+        return Err(Refusal::NumberTooMany { at });
+    }
+    let literal = numeral.value();
+    let variable = literal.unsigned_abs();
+    if variable == 0 || variable > u32::from(shape.variables()) {
+        return Err(Refusal::LiteralBeyondRange { at });
+    }
+    if variable <= line.last {
+        return Err(Refusal::LiteralNotRising { at });
+    }
+    let slot = if literal < 0 { Slot::No } else { Slot::Yes };
+    let line = Literals {
+        left: line.left - 1,
+        last: variable,
+    };
+    Ok((
         ReaderState::AmongCubes {
             left,
-            fresh,
-            literals,
-            ..
-        } => left == 0 && (fresh || literals == 0),
-        _ => false,
-    }
+            line: Some(line),
+        },
+        Some(Deed::Put { variable, slot }),
+    ))
 }
 
 // Does to the first `count` cubes of `out` what is asked, and returns how many there then are.
-fn perform<C: CubeNotation>(deed: Deed, out: &mut [C], count: usize) -> usize
+// The project lends tables, so the cubes stand at the front of one with their number beside it.
+fn perform<C: CubeNotation>(deed: Option<Deed>, out: &mut [C], count: usize) -> usize
     requires { (Ready (length out.old) deed count) × ((Within 20 deed) × (count ≤ length out.old)) }
     ensures number { result ≡ counted deed count }
     ensures cubes { take result (map C.slots out.new) ≡ act deed (take count (map C.slots out.old)) }
     ensures kept { (most : ℕ) → Ready most deed count → drop most out.new ≡ drop most out.old }
 {
     match deed {
-        Deed::Nothing => count,
-        Deed::Open => {
+        None => count,
+        Some(Deed::Open) => {
             out[count] = C::blank();
             count + 1
         }
-        Deed::Put { variable, slot } => {
+        Some(Deed::Put { variable, slot }) => {
             let cube = out[count - 1];
             out[count - 1] = cube.set(VariableNumber::nearest(variable), slot);
             count
@@ -199,29 +218,23 @@ fn perform<C: CubeNotation>(deed: Deed, out: &mut [C], count: usize) -> usize
     }
 }
 
-fn read_within<C: CubeNotation>(
-    n: u32,
-    most: u32,
-    text: &[u8],
-    out: &mut [C],
-) -> Result<usize, Refusal>
-    requires { (n ≤ 20) × (most ≤ length out.old) }
-    ensures result { Reads (read_sheet n most text.now) result (map C.slots out.new) }
-    ensures within { IfOk result (λ k. k ≤ most) }
-    ensures kept { drop most out.new ≡ drop most out.old }
+fn read_within<C: CubeNotation>(shape: Shape, text: &[u8], out: &mut [C]) -> Result<usize, Refusal>
+    requires { shape.places.value ≤ length out.old }
+    ensures result { Reads (read_sheet shape.variables.value shape.places.value text.now) result (map C.slots out.new) }
+    ensures within { IfOk result (λ k. k ≤ shape.places.value) }
+    ensures kept { drop shape.places.value out.new ≡ drop shape.places.value out.old }
 {
     if text.len() > MOST_BYTES {
         return Err(Refusal::TextTooLong);
     }
-    let mut tokens = Tokens::new(text);
     let mut state = ReaderState::BeforeLine1;
     let mut count = 0;
-    while let Some(token) = tokens.next()? {
-        let (next, deed) = step(n, most, state, token)?;
+    for token in Tokens::new(text) {
+        let (next, deed) = step(shape, state, token?)?;
         count = perform(deed, out, count);
         state = next;
     }
-    if !is_complete(state) {
+    if !state.is_complete() {
         return Err(Refusal::EndsTooEarly { at: text.len() });
     }
     Ok(count)
@@ -233,14 +246,13 @@ pub fn read_sheet<C: CubeNotation>(
     text: &[u8],
     out: &mut [C],
 ) -> Result<usize, Refusal>
-    ensures result { Reads (read_into shape.variables shape.places (length out.old) text.now) result (map C.slots out.new) }
-    ensures accepted { Accepts shape.variables shape.places (length out.old) text.now result (map C.slots out.new) }
-    ensures within { IfOk result (λ k. k ≤ shape.places) }
-    ensures kept { drop shape.places out.new ≡ drop shape.places out.old }
+    ensures result { Reads (read_into shape.variables.value shape.places.value (length out.old) text.now) result (map C.slots out.new) }
+    ensures accepted { Accepts shape.variables.value shape.places.value (length out.old) text.now result (map C.slots out.new) }
+    ensures within { IfOk result (λ k. k ≤ shape.places.value) }
+    ensures kept { drop shape.places.value out.new ≡ drop shape.places.value out.old }
 {
-    let most = shape.places();
-    if out.len() < most as usize {
+    if out.len() < usize::from(shape.places()) {
         return Err(Refusal::TableTooShort);
     }
-    read_within(shape.variables() as u32, most as u32, text, out)
+    read_within(shape, text, out)
 }

@@ -1,8 +1,9 @@
 // A sheet is written by one traversal, called twice: for the length first, and then over the lent bytes.
-ghost use Rattle.std.specs.Prelude.{◌≡◌, ◌+◌, ◌*◌, ◌<◌, ◌≤◌, map, length, take};
+// `Display` does not serve: what std's formatting promises of a failed write is not enough to say when a sheet is refused.
+ghost use Rattle.std.specs.Prelude.{◌≡◌, map, length, take};
 ghost use Rattle.cube.specs.Slots.{blank_above};
-ghost use Rattle.text.specs.Output.{Laid};
-ghost use Rattle.sheet.specs.Writing.{filled, one, write_literal, write_literals, write_cube, write_cubes, write_sheet, Writes, Exact};
+ghost use Rattle.text.specs.Output.{Puts, Laid};
+ghost use Rattle.sheet.specs.Writing.{filled, write_literal, write_literals, write_cube, write_cubes, write_sheet, Writes, Exact};
 ghost use Rattle.sheet.specs.Trip.{Wrote, Returns};
 
 use crate::reading::MOST_BYTES;
@@ -11,113 +12,77 @@ use cube::refusal::Refusal;
 use cube::shape::Shape;
 use cube::slot::Slot;
 use cube::variable::VariableNumber;
-use text::output::{put, put_number};
+use text::output::Writer;
 
-fn put_literal(variable: u32, slot: Slot, out: &mut [u8], at: usize) -> usize
-    requires { at < 1000000000 }
-    ensures laid { Laid out.old at (write_literal variable slot) result out.new }
-    ensures short { result ≤ at + 12 }
+fn put_literal(variable: u8, slot: Slot, writer: &mut Writer)
+    ensures { Puts writer.old (write_literal variable slot) writer.new }
 {
     match slot {
         Slot::No => {
-            let gap = put(b' ', out, at);
-            let minus = put(b'-', out, gap);
-            put_number(variable, out, minus)
+            writer.put(b' ');
+            writer.put(b'-');
+            writer.put_number(variable);
         }
         Slot::Yes => {
-            let gap = put(b' ', out, at);
-            put_number(variable, out, gap)
+            writer.put(b' ');
+            writer.put_number(variable);
         }
-        Slot::Blank => at,
+        Slot::Blank => {}
     }
 }
 
-fn literals_in(slot: Slot) -> u32
-    ensures value { result ≡ one slot }
-    ensures bound { result ≤ 1 }
+// How many slots of the shape's variables are not Blank.
+fn count_literals<C: CubeNotation>(shape: Shape, cube: C) -> usize
+    ensures { result ≡ filled (take shape.variables.value (C.slots cube)) }
 {
-    match slot {
-        Slot::No | Slot::Yes => 1,
-        Slot::Blank => 0,
-    }
-}
-
-// How many of the first `n` slots are not Blank.
-fn count_literals<C: CubeNotation>(n: u32, cube: C) -> u32
-    requires { n ≤ 20 }
-    ensures value { result ≡ filled (take n (C.slots cube)) }
-    ensures bound { result ≤ n }
-{
+    // A loop, since the proof of `filter` and `count` over the numbers did not close.
     let mut count = 0;
-    for v in 0..n {
-        count += literals_in(cube.slot(VariableNumber::nearest(v + 1)));
+    for v in 1..=shape.variables() {
+        if cube.slot(VariableNumber::nearest(u32::from(v))) != Slot::Blank {
+            count += 1;
+        }
     }
     count
 }
 
-// The literals of the first `n` slots.
-fn put_literals<C: CubeNotation>(n: u32, cube: C, out: &mut [u8], at: usize) -> usize
-    requires { (n ≤ 20) × (at < 100000000) }
-    ensures laid { Laid out.old at (write_literals 1 (take n (C.slots cube))) result out.new }
-    ensures short { result ≤ at + 12 * n }
+// The literals of the shape's variables.
+fn put_literals<C: CubeNotation>(shape: Shape, cube: C, writer: &mut Writer)
+    ensures { Puts writer.old (write_literals 1 (take shape.variables.value (C.slots cube))) writer.new }
 {
-    let mut end = at;
-    for v in 0..n {
-        end = put_literal(v + 1, cube.slot(VariableNumber::nearest(v + 1)), out, end);
+    for variable in 1..=shape.variables() {
+        let slot = cube.slot(VariableNumber::nearest(u32::from(variable)));
+        put_literal(variable, slot, writer);
     }
-    end
 }
 
-// The line of a cube, with the slots above `n` taken as Blank.
-fn put_cube<C: CubeNotation>(n: u32, cube: C, out: &mut [u8], at: usize) -> usize
-    requires { (n ≤ 20) × (at < 50000000) }
-    ensures laid { Laid out.old at (write_cube (blank_above n (C.slots cube))) result out.new }
-    ensures short { result ≤ at + 251 }
+// The line of a cube, with the slots above the shape's variables taken as Blank.
+fn put_cube<C: CubeNotation>(shape: Shape, cube: C, writer: &mut Writer)
+    ensures { Puts writer.old (write_cube (blank_above shape.variables.value (C.slots cube))) writer.new }
 {
-    let count = put_number(count_literals(n, cube), out, at);
-    let literals = put_literals(n, cube, out, count);
-    put(b'\n', out, literals)
+    writer.put_number(count_literals(shape, cube));
+    put_literals(shape, cube, writer);
+    writer.put(b'\n');
 }
 
-fn put_cubes<C: CubeNotation>(n: u32, cubes: &[C], out: &mut [u8], at: usize) -> usize
-    requires { (n ≤ 20) × ((length cubes.now < 65536) × (at ≤ 22)) }
-    ensures laid { Laid out.old at (write_cubes (map (blank_above n) (map C.slots cubes.now))) result out.new }
-    ensures short { result ≤ 22 + 251 * length cubes.now }
+fn put_cubes<C: CubeNotation>(shape: Shape, cubes: &[C], writer: &mut Writer)
+    ensures { Puts writer.old (write_cubes (map (blank_above shape.variables.value) (map C.slots cubes.now))) writer.new }
 {
-    let mut end = at;
     for cube in cubes {
-        end = put_cube(n, *cube, out, end);
+        put_cube(shape, *cube, writer);
     }
-    end
 }
 
-fn put_sheet<C: CubeNotation>(n: u32, cubes: &[C], out: &mut [u8]) -> usize
-    requires { (n ≤ 20) × (length cubes.now < 65536) }
-    ensures laid { Laid out.old 0 (write_sheet n (map (blank_above n) (map C.slots cubes.now))) result out.new }
-    ensures short { result ≤ 22 + 251 * length cubes.now }
+// Lays the sheet over `out` as far as this goes, and returns how long it is.
+fn put_sheet<C: CubeNotation>(shape: Shape, cubes: &[C], out: &mut [u8]) -> usize
+    ensures { Laid out.old 0 (write_sheet shape.variables.value (map (blank_above shape.variables.value) (map C.slots cubes.now))) result out.new }
 {
-    let first = put_number(n, out, 0);
-    let line1 = put(b'\n', out, first);
-    let second = put_number(cubes.len() as u32, out, line1);
-    let line2 = put(b'\n', out, second);
-    put_cubes(n, cubes, out, line2)
-}
-
-fn write_under<C: CubeNotation>(n: u32, cubes: &[C], out: &mut [u8]) -> Result<usize, Refusal>
-    requires { n ≤ 20 }
-    ensures result { Writes (write_sheet n (map (blank_above n) (map C.slots cubes.now))) out.old result out.new }
-    ensures exact { Exact (length cubes.now) (write_sheet n (map (blank_above n) (map C.slots cubes.now))) out.old result }
-{
-    // A sheet has more bytes than cubes.
-    if cubes.len() > MOST_BYTES {
-        return Err(Refusal::OutputTooShort);
-    }
-    let mut none: [u8; 0] = [];
-    let length = put_sheet(n, cubes, &mut none);
-    if length > out.len() || length > MOST_BYTES {
-        return Err(Refusal::OutputTooShort);
-    }
-    Ok(put_sheet(n, cubes, out))
+    let mut sheet = Writer::new(out);
+    sheet.put_number(shape.variables());
+    sheet.put(b'\n');
+    sheet.put_number(cubes.len());
+    sheet.put(b'\n');
+    put_cubes(shape, cubes, &mut sheet);
+    sheet.end()
 }
 
 /// The text of a sheet of these cubes, with the slots above the shape's variables taken as Blank, at the front of `out`.
@@ -126,10 +91,15 @@ pub fn write_sheet<C: CubeNotation>(
     cubes: &[C],
     out: &mut [u8],
 ) -> Result<usize, Refusal>
-    ensures result { Writes (write_sheet shape.variables (map (blank_above shape.variables) (map C.slots cubes.now))) out.old result out.new }
-    ensures exact { Exact (length cubes.now) (write_sheet shape.variables (map (blank_above shape.variables) (map C.slots cubes.now))) out.old result }
-    ensures sheet { Wrote shape.variables (map (blank_above shape.variables) (map C.slots cubes.now)) result out.new }
-    ensures reads_back { Returns shape.variables (map (blank_above shape.variables) (map C.slots cubes.now)) result out.new }
+    ensures result { Writes (write_sheet shape.variables.value (map (blank_above shape.variables.value) (map C.slots cubes.now))) out.old result out.new }
+    ensures exact { Exact (length cubes.now) (write_sheet shape.variables.value (map (blank_above shape.variables.value) (map C.slots cubes.now))) out.old result }
+    ensures sheet { Wrote shape.variables.value (map (blank_above shape.variables.value) (map C.slots cubes.now)) result out.new }
+    ensures reads_back { Returns shape.variables.value (map (blank_above shape.variables.value) (map C.slots cubes.now)) result out.new }
 {
-    write_under(shape.variables() as u32, cubes, out)
+    let mut none: [u8; 0] = [];
+    let length = put_sheet(shape, cubes, &mut none);
+    if length > out.len() || length > MOST_BYTES {
+        return Err(Refusal::OutputTooShort);
+    }
+    Ok(put_sheet(shape, cubes, out))
 }

@@ -39,13 +39,16 @@ laid_front {out} {text} {out'} {r} l h few =
     let e : r ≡ length text = omega (arith, l.place) in
     (e, l.over ∙ overlay_fits out text h ∙ ap (λ k. text ++ drop k out) (sym e))
 
+pub puts_none : (w : Writer) → Puts w [] w
+puts_none w = record { same_reference = refl; laid = record { place = omega (arith, w.countable); over = refl } }
+
 pub puts_then : {w m w' : Writer} {xs ys : List ℕ} → Puts w xs m → Puts m ys w' → Puts w (xs ++ ys) w'
 puts_then {w} {m} {w'} {xs} {ys} a b =
     record {
       same_reference = b.same_reference ∙ a.same_reference;
       laid = record {
         place = omega (arith, a.laid.place, b.laid.place, length-append xs ys);
-        over = b.laid.over ∙ ap (λ i. overlay m.out.now i ys) a.laid.place ∙ overlay_counted m.out.now (w.end + length xs) ys m.countable ∙ ap (λ o. overlay o (w.end + length xs) ys) a.laid.over ∙ sym (overlay_append w.out.now w.end xs ys);
+        over = b.laid.over ∙ ap (λ i. overlay m.out.now i ys) a.laid.place ∙ overlay_counted m.out.now (w.end + length xs) ys m.countable.0 ∙ ap (λ o. overlay o (w.end + length xs) ys) a.laid.over ∙ sym (overlay_append w.out.now w.end xs ys);
       };
     }
 

@@ -1,14 +1,14 @@
 // Bytes and numbers written over lent bytes.
-ghost use Rattle.std.specs.Prelude.{◌≡◌, ◌^◌, ◌<◌, [], ◌∷◌, length, decimal};
+ghost use Rattle.std.specs.Prelude.{◌≡◌, ◌^◌, ◌<◌, [], ◌∷◌, length};
 
-use itoa::Buffer;
+use itoa::{Buffer, Integer};
 
 /// Bytes written one after another over lent bytes, as far as these go; `end` counts on past their end.
 #[derive(Drop)]
 pub struct Writer<'a> {
     out: &'a mut [u8],
     end: usize,
-    ghost countable: { length out.now < 2 ^ 64 },
+    ghost countable: { (length out.now < 2 ^ 64) × (end < 2 ^ 64) },
 }
 
 impl<'a> Writer<'a> {
@@ -31,8 +31,8 @@ impl<'a> Writer<'a> {
         *end = end.saturating_add(1);
     }
 
-    pub fn put_number(&mut self, k: u32)
-        ensures { Puts self.old (decimal k) self.new }
+    pub fn put_number<I: Integer>(&mut self, k: I)
+        ensures { Puts self.old (I.text k) self.new }
     {
         self.put_all(Buffer::new().format(k).as_bytes());
     }
@@ -45,7 +45,7 @@ impl<'a> Writer<'a> {
         }
     }
 
-    /// How many bytes were written, those past the end of the lent ones among them.
+    /// How many bytes were written, those past the end of the lent ones among them, as far as a `usize` counts.
     pub fn end(&self) -> usize
         ensures { result ≡ self.now.end }
     {

@@ -1,30 +1,18 @@
-use Rattle.std.proofs.Common.{◌≡◌, map, take, Some, Ok, Err, refl, ap, ◌∙◌, subst, arith, rules}
-use Rattle.std.proofs.lemmas.List.{length-map}
-use Rattle.std.proofs.lemmas.Result.{err_from_is_err_and}
-use Rattle.text.specs.Tokens.{tokens_from}
-use Rattle.text.specs.Tokens.{Next, tok_of}
-use Rattle.sheet.proofs.Runs.{reads_err, made_err, refused_token, refused_step}
+use Rattle.std.proofs.Common.{◌≤◌, length, arith, rules}
+use Rattle.text.specs.Tokens.{tok_of}
+use Rattle.sheet.proofs.Steps.{step_keeps, room_below, ready_in}
 use Rattle.sheet.proofs.reading.read_within.Goals as goal
 
-pub returns : goal.returns
-returns g c = let l = length-map c.loop-token.out g.C.CubeNotation.slots in search rules
-
-pub returns-in_err-token : goal.returns-in_err-token
-returns-in_err-token g c =
+pub perform-count-requires : goal.perform-count-requires
+perform-count-requires g c =
+    let most = c.args.shape.places.value in
     let l = c.loop-token in
-    let f = c.in_err-token.field-0.0 in
-    let p = err_from_is_err_and c.from_residual.result c.from_residual.ensures.1 in
-    let e = refused_token c.args.n c.args.most l.state (take l.count (map g.C.CubeNotation.slots l.out)) l.tokens.text.now c.args.text.now l.tokens.pos (omega arith) l.invariant.0 l.invariant.2 f c.in_err-token.ensures.next in
-    let is : c.from_residual.result ≡ Err f = p.1 ∙ ap Err p.2 in
-    record { result = reads_err _ c.from_residual.result _ f e is; within = made_err _ _ f is; kept = l.invariant.3 }
+    let fits : most ≤ length l.out = omega arith in
+    let k = step_keeps c.args.shape.variables.value most l.count l.state (tok_of c.in_ok-token.field-0) (c.in_ok-next.next, c.in_ok-next.deed) c.args.shape.variables.high c.in_ok-next.ensures l.invariant.1 in
+    (ready_in most (length l.out) l.count c.in_ok-next.deed fits k.ready, (k.within, omega (arith, room_below most l.count l.state l.invariant.1)))
 
-pub returns-in_err-next : goal.returns-in_err-next
-returns-in_err-next g c =
+pub loop-token-preserved : goal.loop-token-preserved
+loop-token-preserved g c =
     let l = c.loop-token in
-    let f = c.in_err-next.field-0.0 in
-    let p = err_from_is_err_and c.from_residual-in_err-next.result c.from_residual-in_err-next.ensures.1 in
-    let xs = l.tokens.text.now in
-    let n : Next xs l.tokens.pos (Ok (Some c.in-Some.token)) c.next.new.self.pos = subst (λ o. Next xs l.tokens.pos (Ok o) c.next.new.self.pos) c.in-Some.is c.in_ok-token.ensures.next in
-    let e = refused_step c.args.n c.args.most l.state (take l.count (map g.C.CubeNotation.slots l.out)) xs c.args.text.now l.tokens.pos (omega arith) l.invariant.0 l.invariant.2 (tok_of c.in-Some.token) (tokens_from xs c.next.new.self.pos) (Err f) f n.same c.in_err-next.ensures.value refl in
-    let is : c.from_residual-in_err-next.result ≡ Err f = p.1 ∙ ap Err p.2 in
-    record { result = reads_err _ c.from_residual-in_err-next.result _ f e is; within = made_err _ _ f is; kept = l.invariant.3 }
+    let k = step_keeps c.args.shape.variables.value c.args.shape.places.value l.count l.state (tok_of c.in_ok-token.field-0) (c.in_ok-next.next, c.in_ok-next.deed) c.args.shape.variables.high c.in_ok-next.ensures l.invariant.1 in
+    search rules
