@@ -11,8 +11,8 @@ invariant_of-result c = record {
 
 pub returns-clause-law : goal.returns-clause-law
 returns-clause-law c = λ cells. begins (record {
-  variables = (c.args.shape.variables.low, c.args.shape.variables.high);
-  room = (c.args.shape.places.low, c.args.shape.places.high);
+  variables = (omega arith, omega arith);
+  room = (omega arith, omega arith);
   empty = c.new.ensures;
   unarmed = refl;
 })
