@@ -16,6 +16,6 @@ impl Files {
     pub fn sheet(&self, k: RegisterNumber) -> Option<&[u8]>
         ensures { lent result ≡ file_of self.now k.number.value }
     {
-        self.sheets.get(k.number() as usize)?.as_deref()
+        self.sheets.get(usize::from(k))?.as_deref()
     }
 }

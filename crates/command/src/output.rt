@@ -7,7 +7,7 @@ use cube::refusal::Refusal;
 pub fn put_text(text: &[u8], out: &mut [u8]) -> Result<usize, Refusal>
     ensures { Puts text.now out.old result out.new }
 {
-    // The length is tested here: what the bytes end as is not known after `get_mut(..size)`.
+    // Tried: after `get_mut(..size)` or `split_at_mut_checked(size)` the proof has lost what the bytes end as.
     let size = text.len();
     if size > out.len() {
         return Err(Refusal::OutputTooShort);
