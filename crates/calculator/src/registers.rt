@@ -43,7 +43,7 @@ impl Record {
     }
 }
 
-/// The tables of cubes are handed in at each call; only the records are a calculator's own.
+/// The library has no heap, so the cubes stand in a table that the host lends at each call, and a record has their number alone.
 #[derive(Drop)]
 pub struct Registers {
     records: [Record; 32],

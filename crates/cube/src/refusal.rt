@@ -26,6 +26,7 @@ pub enum Refusal {
     NoSuchFile,
 }
 
+// Two numbers of one refusal, each by its name: a `From` could give one of them, and would hide which.
 impl Refusal {
     /// The number that is returned to the host and printed.
     pub fn number(self) -> u8

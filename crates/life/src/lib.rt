@@ -1,4 +1,4 @@
-// The law of lives, as a calculator's contracts cite it.
+// The law of lives, as a calculator's contracts cite it. Only a contract promises a theorem, so each has a function that does nothing.
 #![tactic(auto)]
 
 ghost use Rattle.life.specs.Example.{ExampleIsLived};

@@ -19,6 +19,7 @@ use cube::shape::Shape;
 use sheet::reading::read_sheet;
 use sheet::writing::write_sheet;
 
+// The tables are slices that the host lends at each call, by a rule of the project: the library has no heap, and a calculator keeps no table.
 impl Calculator {
     /// A calculator of this shape, with the empty cover in every register, for any register table.
     pub fn new(shape: Shape) -> Calculator
