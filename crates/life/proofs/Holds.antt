@@ -1,6 +1,6 @@
 -- A register that is filled holds the list, and every other what it held.
-use Rattle.std.proofs.Common.{◌≡◌, ℕ, suc, ◌+◌, ◌*◌, ◌<◌, ◌≤◌, cond, eqb, ◌⊎◌, List, ◌++◌, length, get_or, take, drop, set, Some, None, Option, sym, refl, ap, ◌∙◌, subst, inl, inr, ⊎_elim, mul-le-mul_right, suc-mul, arith, rules}
-use Rattle.std.proofs.lemmas.List.{places, same_lists, take_at, drop_at, length-take-le, length-append, length-set, get_or-set_same, get_or-set_other, length-drop}
+use Rattle.std.proofs.Common.{◌≡◌, ℕ, suc, ◌+◌, ◌*◌, ◌<◌, ◌≤◌, cond, eqb, ◌⊎◌, List, length, get_or, take, drop, set, Some, None, Option, sym, refl, ap, ◌∙◌, subst, inl, inr, ⊎_elim, mul-le-mul_right, suc-mul, arith, rules}
+use Rattle.std.proofs.lemmas.List.{places, same_lists, length-set, get_or-set_same, get_or-set_other}
 use Rattle.std.proofs.lemmas.Bool.{cases_eq, cases_lt, eq-eqb, ne_eqb, cond-true, cond-false}
 use Rattle.cube.specs.Slots.{Cover}
 use Rattle.life.specs.View.{View, of_count, given, held, written, holding, filling}
@@ -9,15 +9,14 @@ use Rattle.life.proofs.Makes.{Placed}
 
 -- what is written is read again
 read_written : {X : Type 0} (xs new : List X) (start : ℕ) → start ≤ length xs → take (length new) (drop start (written xs start new)) ≡ new
-read_written xs new start h =
-    ap (take (length new)) (drop_at (take start xs) (new ++ drop (start + length new) xs) start (length-take-le start xs h)) ∙ take_at new (drop (start + length new) xs) (length new) refl
+read_written xs new start h = same_lists _ _ (search (rules, places)) (λ k d l. grind (arith, places))
 
 -- and what lies below or above it is as it was
 read_elsewhere : {X : Type 0} (xs new : List X) (start j c : ℕ) → start + length new ≤ length xs → (j + c ≤ start) ⊎ (start + length new ≤ j) → take c (drop j (written xs start new)) ≡ take c (drop j xs)
 read_elsewhere xs new start j c h w = same_lists _ _ (search (rules, places)) (λ k d l. grind (arith, places))
 
 length_written : {X : Type 0} (xs new : List X) (start : ℕ) → start + length new ≤ length xs → length (written xs start new) ≡ length xs
-length_written xs new start h = simp (length-append, length-drop, length-take-le start xs (omega arith)) (omega arith)
+length_written xs new start h = grind (arith, places)
 
 -- what the registers of a view are: 32, none with more cubes than it has places
 pub record Kept (v : View) : Type 0 where

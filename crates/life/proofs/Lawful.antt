@@ -1,5 +1,5 @@
 -- Every life keeps the law.
-use Rattle.std.proofs.Common.{◌≡◌, ℕ, ◌≤◌, eqb, ◌↔◌, List, [], ◌∷◌, length, Some, None, Option, sym, refl, ap, ◌∙◌, subst, arith}
+use Rattle.std.proofs.Common.{◌≡◌, ℕ, ◌≤◌, eqb, ◌↔◌, List, [], ◌∷◌, length, Some, None, sym, refl, ap, ◌∙◌, subst, arith}
 use Rattle.std.proofs.lemmas.Bool.{cond-true, eq-eqb}
 use Rattle.cube.specs.Refusals.{Fault}
 use Rattle.cube.specs.Says.{yes_at}
@@ -68,31 +68,22 @@ pub sound_before : {g : Given} {c : Call} {x : ℕ} {o : Outcome} {before : List
 sound_before {before} m = subst (λ g. Sound g m.view before) m.same m.sound
 
 -- refusals
-same_refusal : (r : Option Fault) (a f : Fault) → r ≡ Some a → r ≡ Some f → refused a ≡ refused f
-same_refusal r a f p q = cc
-
-not_both : {X : Type 0} (r : Option X) (z : X) → r ≡ None → r ≡ Some z → ⊥
-not_both r z p q = let e : ◌≡◌ {A = ℕ} 0 1 = cc in omega arith
-
-not_refused : (answer : Answer) (f : Fault) → accepted answer ≡ refused f → ⊥
-not_refused answer f p = let e : ◌≡◌ {A = ℕ} 0 1 = cc in omega arith
-
 refused_iff : {g : Given} {c : Call} {x : ℕ} {before : List Event} (o : Outcome) → Moment g c x o before → (f : Fault)
     → (o ≡ refused f) ↔ (first_of (causes g x c (rows g before)) ≡ Some f)
 refused_iff {g} {c} {x} {before} (refused a) m f =
     let first : first_of (causes g x c (rows g before)) ≡ Some a =
     subst (λ h. first_of (causes h x c (rows h before)) ≡ Some a) m.same (sym (causes_are m.view before c x m.sound m.numbered) ∙ m.step.first_cause) in
-    (λ e. first ∙ cc, same_refusal (first_of (causes g x c (rows g before))) a f first)
+    ((λ e. cc), (λ e. cc))
 refused_iff {g} {c} {x} {before} (accepted answer) m f =
     let none : first_of (causes g x c (rows g before)) ≡ None =
     subst (λ h. first_of (causes h x c (rows h before)) ≡ None) m.same (sym (causes_are m.view before c x m.sound m.numbered) ∙ m.step.no_cause) in
-    (λ e. absurd (not_refused answer f e), λ e. absurd (not_both (first_of (causes g x c (rows g before))) f none e))
+    ((λ e. absurd (cc)), (λ e. absurd (cc)))
 
 accepted_iff : {g : Given} {c : Call} {x : ℕ} {before : List Event} (o : Outcome) → Moment g c x o before
     → ((answer : Answer) × (o ≡ accepted answer)) ↔ (first_of (causes g x c (rows g before)) ≡ None)
 accepted_iff {g} {c} {x} {before} (refused a) m =
     let first = (refused_iff (refused a) m a).0 refl in
-    (λ p. absurd (not_refused p.0 a (sym p.1)), λ e. absurd (not_both (first_of (causes g x c (rows g before))) a e first))
+    ((λ p. absurd (cc p.1)), (λ e. absurd (cc)))
 accepted_iff {g} {c} {x} {before} (accepted answer) m =
     let none : first_of (causes g x c (rows g before)) ≡ None =
     subst (λ h. first_of (causes h x c (rows h before)) ≡ None) m.same (sym (causes_are m.view before c x m.sound m.numbered) ∙ m.step.no_cause) in
@@ -122,11 +113,11 @@ read_refused {g} {k} {x} {bytes} {before} (refused f) m h = (
   λ p F s.
       let first = sym (read_first g k x bytes (rows g before) h) ∙ (refused_iff (refused f) m f).0 refl in
       let none = no_fault (read_sheet g.n g.places bytes) F ((sheets_are_read g.n g.places bytes F).1 s) in
-      not_both _ f none first,
+      cc,
   λ none. (f, refl),
 )
 read_refused {g} {k} {x} {bytes} {before} (accepted answer) m h = (
-  λ p. absurd (not_refused answer p.0 p.1),
+  λ p. absurd (cc p.1),
   λ none. absurd (none (shown bytes) (read_sheet_at m)),
 )
 

@@ -21,7 +21,7 @@ NoneOf [] = Unit {0}
 NoneOf (c ∷ cs) = (c.applies ≡ false) × NoneOf cs
 
 none_step : (b : Bool) (f : Fault) (o : Option Fault) → cond b (Some f) o ≡ None → (b ≡ false) × (o ≡ None)
-none_step true f o h = let z : ◌≡◌ {A = ℕ} 0 1 = cc in absurd (omega arith)
+none_step true f o h = absurd (cc)
 none_step false f o h = (refl, h)
 
 pub none_of : (cs : List Cause) → first_of cs ≡ None → NoneOf cs
@@ -31,7 +31,7 @@ none_of (c ∷ cs) h = let p = none_step c.applies c.returns (first_of cs) h in 
 -- a text without fault is a sheet of the cubes that it shows
 was_read : (r : Result Cover Fault) → NoneOf (faulty r) → (F : Cover) × (r ≡ Ok F)
 was_read (Ok F) h = (F, refl)
-was_read (Err f) h = let z : ◌≡◌ {A = ℕ} 0 1 = cc h.0 in absurd (omega arith)
+was_read (Err f) h = absurd (cc h.0)
 
 pub sheet_of : (n most : ℕ) (bytes : List ℕ) → NoneOf (faulty (read_sheet n most bytes)) → Sheet n most bytes (shown bytes)
 sheet_of n most bytes h = let r = was_read (read_sheet n most bytes) h in shown_sheet n most bytes r.0 ((sheets_are_read n most bytes r.0).0 r.1)
