@@ -1,12 +1,13 @@
 -- How a stream goes on at each kind of byte.
 use Rattle.std.proofs.Common.{◌≡◌, ℕ, ◌+◌, ◌-◌, ◌<◌, ◌≤◌, ◌⊎◌, List, [], ◌∷◌, ◌++◌, length, get_or, take, drop, sym, refl, ap, ◌∙◌, inl, inr, ⊎_elim, arith, length-drop, get_or-drop}
-use Rattle.std.proofs.lemmas.Bool.{cases_lt}
+use Rattle.std.proofs.lemmas.Bool.{cases_lt, lt-ltb, le-ltb, cond-true, cond-false}
 use Rattle.std.proofs.lemmas.Bool.Decides.{nat_tests}
 use Rattle.std.proofs.lemmas.List.{at_drop_more, at_drop_all, take_more, drop_more}
 use Rattle.text.specs.declared.bytes.Kind.TheVariants.{Separator, LineFeed, Minus, Digit, Other}
 use Rattle.text.specs.Bytes.{kind}
 use Rattle.text.specs.Tokens.{tok, bad, between, minus, digits, stream, closed, eol, span, tokens_from}
-use Rattle.text.specs.Scanning.{Opens}
+use Rattle.text.specs.Scanning.{Opens, Closes}
+use Rattle.text.proofs.Runs.{same_up_to}
 
 module _ (xs : List ℕ) (p : ℕ) (h : p < length xs) where
   pub separator_more : kind (get_or xs p 0) ≡ Separator → stream between p (drop p xs) ≡ stream between (p + 1) (drop (p + 1) xs)
@@ -92,3 +93,41 @@ ends xs start first p text h k =
     (λ lt. digits_closed xs p lt start first text (k lt))
     (λ ge. at_drop_all (stream (digits start first text) p) xs p ge ∙ ap (closed start first text p) (sym (at_drop_all (stream between p) xs p ge)))
     (cases_lt p (length xs))
+
+-- a minus that no digit follows
+pub lone_minus : (xs : List ℕ) (p : ℕ) → p < length xs → kind (get_or xs p 0) ≡ Minus → (p + 1 < length xs → kind (get_or xs (p + 1) 0) ≡ Digit → ⊥) → tokens_from xs p ≡ bad 22 p
+lone_minus xs p h m d =
+    minus_more xs p h m ∙ ⊎_elim
+    (λ lt. minus_stray xs (p + 1) lt p (d lt))
+    (λ ge. at_drop_all (stream (minus p) (p + 1)) xs (p + 1) ge)
+    (cases_lt (p + 1) (length xs))
+
+-- the digits from start, the first of them at first, go on to end
+module _ (xs : List ℕ) (start first end : ℕ) (opens : Opens xs start first) (more : stream (digits start first (span xs start (first + 1))) (first + 1) (drop (first + 1) xs) ≡ stream (digits start first (span xs start end)) end (drop end xs)) where
+  pub stray_after : end < length xs → (kind (get_or xs end 0) ≡ Separator → ⊥) → (kind (get_or xs end 0) ≡ LineFeed → ⊥) → (kind (get_or xs end 0) ≡ Digit → ⊥) → tokens_from xs start ≡ bad 20 end
+  stray_after h s l d = opens.same ∙ more ∙ digits_stray xs end h start first (span xs start end) s l d
+
+  module _ (h : end ≤ length xs) (k : end < length xs → (kind (get_or xs end 0) ≡ Separator) ⊎ (kind (get_or xs end 0) ≡ LineFeed)) where
+    closed_at : tokens_from xs start ≡ closed start first (span xs start end) end (tokens_from xs end)
+    closed_at = opens.same ∙ more ∙ ends xs start first end (span xs start end) h k
+
+    pub sixth_digit : 5 < end - first → tokens_from xs start ≡ bad 21 start
+    sixth_digit many = closed_at ∙ cond-true _ _ _ (lt-ltb _ _ many)
+
+    pub closes : first + 1 ≤ end → end - first ≤ 5 → Closes xs start end
+    closes some few =
+        record {
+          after = omega (arith, opens.after);
+          near = omega (arith, opens.near);
+          within = h;
+          same = closed_at ∙ cond-false _ _ _ (le-ltb _ _ few);
+        }
+
+module _ (xs : List ℕ) (p q : ℕ) (h : p ≤ q) (w : q ≤ length xs) where
+  pub separators_pass : ((k : ℕ) → p + k < q → kind (get_or xs (p + k) 0) ≡ Separator) → tokens_from xs p ≡ tokens_from xs q
+  separators_pass is = same_up_to (tokens_from xs) p q h (λ k l. separator_more xs (p + k) (omega arith) (is k l))
+
+  pub digits_pass : (start first : ℕ) → start ≤ p → ((k : ℕ) → p + k < q → kind (get_or xs (p + k) 0) ≡ Digit)
+      → stream (digits start first (span xs start p)) p (drop p xs) ≡ stream (digits start first (span xs start q)) q (drop q xs)
+  digits_pass start first s is =
+      same_up_to (λ r. stream (digits start first (span xs start r)) r (drop r xs)) p q h (λ k l. digit_more xs (p + k) (omega arith) start first (omega arith) (is k l))

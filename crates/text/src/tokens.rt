@@ -43,6 +43,7 @@ fn past_digits(text: &[u8], start: usize, first: usize, from: usize) -> usize
 }
 
 // The place of the first digit of the number that begins at `start`.
+#[tactic(auto, using(crate::proofs::Streams::opens_digit, crate::proofs::Streams::opens_minus, crate::proofs::Streams::lone_minus, crate::proofs::Streams::stray))]
 fn first_digit(text: &[u8], start: usize) -> Result<usize, Refusal>
     requires { (start < length text.now) × ((kind (slice_index text.now start) ≢ Separator) × (kind (slice_index text.now start) ≢ LineFeed)) }
     ensures { MatchResult result (λ first. Opens text.now start first) (λ f. tokens_from text.now start ≡ bad (fault_of f).number (fault_of f).offset) }
@@ -61,6 +62,7 @@ fn first_digit(text: &[u8], start: usize) -> Result<usize, Refusal>
 }
 
 // The end of the number that begins at `start`, with its first digit at `first`.
+#[tactic(auto, using(crate::proofs::Streams::stray_after, crate::proofs::Streams::sixth_digit, crate::proofs::Streams::closes))]
 fn number_end(text: &[u8], start: usize, first: usize) -> Result<usize, Refusal>
     requires { Opens text.now start first }
     ensures { MatchResult result (λ end. Closes text.now start end) (λ f. tokens_from text.now start ≡ bad (fault_of f).number (fault_of f).offset) }
