@@ -1,14 +1,13 @@
 -- What is read is a sheet in words, and every sheet in words is read.
-use Rattle.std.proofs.Common.{◌≡◌, ℕ, suc, ◌+◌, ◌-◌, ◌<◌, ◌≤◌, Bool, true, false, cond, not, ◌&&◌, ◌||◌, eqb, ltb, leb, List, [], ◌∷◌, ◌++◌, length, get_or, set, Some, None, Ok, Err, Option, Result, sym, refl, ap, ◌∙◌, subst, append_assoc, append-nil, arith}
+use Rattle.std.proofs.Common.{◌≡◌, ℕ, suc, ◌+◌, ◌-◌, ◌≤◌, Bool, true, false, cond, not, ◌&&◌, ◌||◌, eqb, ltb, leb, List, [], ◌∷◌, ◌++◌, length, get_or, set, Some, None, Ok, Err, Option, Result, sym, refl, ap, ◌∙◌, subst, append_assoc, append-nil, arith}
 use Rattle.std.proofs.lemmas.Bool.{le-ltb, cond-true, cond-false}
-use Rattle.std.proofs.lemmas.Bool.Decides.{nat_tests}
 use Rattle.std.proofs.lemmas.List.{length_push, get_or_at, set_at}
 use Rattle.cube.specs.Refusals.{Fault}
 use Rattle.cube.specs.declared.slot.Slot.{Slot}
 use Rattle.sheet.specs.declared.reading.ReaderState.{ReaderState}
 use Rattle.sheet.specs.declared.reading.ReaderState.TheVariants.{BeforeLine1, BeforeLine2, AmongCubes}
 use Rattle.sheet.specs.declared.reading.Deed.{Deed}
-use Rattle.sheet.specs.declared.reading.Deed.TheVariants.{Open, Put}
+use Rattle.sheet.specs.declared.reading.Deed.TheVariants.{Put}
 use Rattle.text.specs.Tokens.{Stream, tok, end, bad, num, eol, between, tokens_from}
 use Rattle.cube.specs.Slots.{Cube, Cover, blank_cube}
 use Rattle.text.specs.Numerals.{size_in, minus_in}
@@ -16,6 +15,7 @@ use Rattle.sheet.specs.Reading.{act, run, refuse, on_line}
 use Rattle.sheet.specs.Sheet.{Each, Numeral}
 use Rattle.text.specs.Words.{Word, onto}
 use Rattle.sheet.proofs.Worded.{Line, Number, Alone, Rising, ticked, filling, Rows, Counted, Lines, WordedAreRead}
+use Rattle.sheet.proofs.Tests.{opening, opening?, putting, rising?, putting?, is_n, n_is, up_to, to_up, variable_in, in_variable, above, below_it, some, none, zero_is, both_zero, is_zero, not_zero, not_some, zeros, short_text}
 use Rattle.sheet.proofs.Splits.{here, below, ahead, after, Clean, each_onto, each_off, lexes, lines_are}
 
 act_last : (cs : Cover) (c : Cube) (k : ℕ) (v : Slot) → act (Some (Put k v)) (cs ++ c ∷ []) ≡ cs ++ set c (k - 1) v ∷ []
@@ -46,90 +46,34 @@ record Comes (n most : ℕ) (s : ReaderState) (cs : Cover) (z : Stream) (out : C
   pub cubes : Cover
   pub rest : Rest n most s cs (ahead z) (after z) cubes out
 
-pub err_not_ok : {X Y : Type 0} {f : X} {y : Y} → Err f ≡ Ok y → ⊥
-err_not_ok e = let z : ◌≡◌ {A = ℕ} 0 1 = cc in omega arith
-
 abbrev go : ℕ → ℕ → Cover → Stream → Result (ReaderState × Option Deed) Fault → Result Cover Fault
 go n most cs s x = elim x [ Ok p ↦ run n most p.0 (act p.1 cs) s | Err f ↦ Err f ]
 
--- what is left of a step after its first tests
-abbrev opening : ℕ → ℕ → Word → Result (ReaderState × Option Deed) Fault
-opening n left w = Ok (on_line (left - 1) (size_in w) 0, Some Open)
-
-abbrev opening? : ℕ → ℕ → Word → ℕ → Result (ReaderState × Option Deed) Fault
-opening? n left w at = cond (minus_in w || ltb n (size_in w)) (refuse 32 at) (opening n left w)
-
-abbrev putting : ℕ → ℕ → Word → Result (ReaderState × Option Deed) Fault
-putting left literals w = Ok (on_line left (literals - 1) (size_in w), Some (Put (size_in w) (ticked w)))
-
-abbrev rising? : ℕ → ℕ → ℕ → Word → ℕ → Result (ReaderState × Option Deed) Fault
-rising? left literals last w at = cond (leb (size_in w) last) (refuse 34 at) (putting left literals w)
-
-abbrev putting? : ℕ → ℕ → ℕ → ℕ → Word → ℕ → Result (ReaderState × Option Deed) Fault
-putting? n left literals last w at = cond (eqb (size_in w) 0 || ltb n (size_in w)) (refuse 33 at) (rising? left literals last w at)
-
 module _ (n most : ℕ) (cs : Cover) (s : Stream) (out : Cover) where
   passes : (b : Bool) (code at : ℕ) (x : Result (ReaderState × Option Deed) Fault) → go n most cs s (cond b (refuse code at) x) ≡ Ok out → (b ≡ false) × (go n most cs s x ≡ Ok out)
-  passes true code at x e = absurd (err_not_ok e)
+  passes true code at x e = cc
   passes false code at x e = (refl, e)
 
   passed : (b : Bool) (code at : ℕ) (x : Result (ReaderState × Option Deed) Fault) → b ≡ false → go n most cs s x ≡ Ok out → go n most cs s (cond b (refuse code at) x) ≡ Ok out
-  passed true code at x f e = let z : ◌≡◌ {A = ℕ} 0 1 = cc in absurd (omega arith)
+  passed true code at x f e = cc
   passed false code at x f e = e
 
 stops : (b : Bool) (cs out : Cover) (f : Fault) → cond b (Ok cs) (Err f) ≡ Ok out → (b ≡ true) × (cs ≡ out)
 stops true cs out f e = (refl, (cc))
-stops false cs out f e = absurd (err_not_ok e)
-
-module _ (m : Bool) (k n : ℕ) where
-  is_n : (m || not (eqb k n)) ≡ false → (m ≡ false) × (k ≡ n)
-  is_n e = (grind (arith, nat_tests), grind (arith, nat_tests))
-
-  n_is : m ≡ false → k ≡ n → (m || not (eqb k n)) ≡ false
-  n_is e f = grind (arith, nat_tests)
-
-  up_to : (m || ltb n k) ≡ false → (m ≡ false) × (k ≤ n)
-  up_to e = (grind (arith, nat_tests), grind (arith, nat_tests))
-
-  to_up : m ≡ false → k ≤ n → (m || ltb n k) ≡ false
-  to_up e f = grind (arith, nat_tests)
-
-  variable_in : (eqb k 0 || ltb n k) ≡ false → (0 < k) × (k ≤ n)
-  variable_in e = (grind (arith, nat_tests), grind (arith, nat_tests))
-
-  in_variable : 0 < k → k ≤ n → (eqb k 0 || ltb n k) ≡ false
-  in_variable e f = grind (arith, nat_tests)
-
-above : (k last : ℕ) → leb k last ≡ false → last < k
-above k last e = grind (arith, nat_tests)
-
-below_it : (k last : ℕ) → last < k → leb k last ≡ false
-below_it k last e = grind (arith, nat_tests)
-
-some : (k : ℕ) → eqb k 0 ≡ false → 0 < k
-some k e = grind (arith, nat_tests)
-
-none : (k : ℕ) → ltb 0 k ≡ false → k ≡ 0
-none k e = grind (arith, nat_tests)
-
-zero_is : (k : ℕ) → eqb k 0 ≡ true → 0 ≡ k
-zero_is k e = grind (arith, nat_tests)
-
-both_zero : (j k : ℕ) → (eqb j 0 && eqb k 0) ≡ true → (0 ≡ j) × (0 ≡ k)
-both_zero j k e = (grind (arith, nat_tests), grind (arith, nat_tests))
+stops false cs out f e = cc
 
 alone_of : (w : Word) (l : Line) (k : ℕ) → l ≡ [] → Number w k → Alone (w ∷ l) k
 alone_of w [] k e h = h
-alone_of w (v ∷ l) k e h = let z : ◌≡◌ {A = ℕ} 0 1 = cc in absurd (omega arith)
+alone_of w (v ∷ l) k e h = cc
 
 empty_is : (l : Line) → length l ≡ 0 → l ≡ []
 empty_is [] e = refl
 empty_is (w ∷ l) e = absurd (omega arith)
 
 accepted : (n most : ℕ) (s : ReaderState) (cs : Cover) (z : Stream) (out : Cover) → run n most s cs z ≡ Ok out → Comes n most s cs z out
-accepted n most s cs (bad code at) out e = absurd (err_not_ok e)
-accepted n most BeforeLine1 cs (end at) out e = absurd (err_not_ok e)
-accepted n most (BeforeLine2 fresh) cs (end at) out e = absurd (err_not_ok e)
+accepted n most s cs (bad code at) out e = cc
+accepted n most BeforeLine1 cs (end at) out e = cc
+accepted n most (BeforeLine2 fresh) cs (end at) out e = cc
 accepted n most (AmongCubes left None) cs (end at) out e =
     let q = stops (eqb left 0) cs out _ e in
     record { clean = tt; cubes = []; rest = (sym q.1 ∙ sym (append-nil cs), zero_is left q.0, tt) }
@@ -142,7 +86,7 @@ accepted n most BeforeLine1 cs (tok (num w at) z) out e =
     let r = accepted n most (BeforeLine2 false) cs z out q.1 in
     let k = is_n (minus_in w) (size_in w) n q.0 in
     record { clean = r.clean; cubes = r.cubes; rest = (r.rest.0, (alone_of w (ahead z) n r.rest.1 k, r.rest.2)) }
-accepted n most (BeforeLine2 false) cs (tok (num w at) z) out e = absurd (err_not_ok e)
+accepted n most (BeforeLine2 false) cs (tok (num w at) z) out e = cc
 accepted n most (BeforeLine2 true) cs (tok (num w at) z) out e =
     let q = passes n most cs z out (minus_in w || ltb most (size_in w)) 31 at (Ok (on_line (size_in w) 0 0, None)) e in
     let r = accepted n most (on_line (size_in w) 0 0) cs z out q.1 in
@@ -166,7 +110,7 @@ accepted n most (AmongCubes left (Some line)) cs (tok (num w at) z) out e =
     let q' = passes n most cs z out (eqb v 0 || ltb n v) 33 at (rising? left line.left line.last w at) q.1 in
     let q'' = passes n most cs z out (leb v line.last) 34 at (putting left line.left w) q'.1 in
     let r = accepted n most (on_line left (line.left - 1) v) (act (Some (Put v (ticked w))) cs) z out q''.1 in
-    let k = variable_in true v n q'.0 in
+    let k = variable_in v n q'.0 in
     let all : suc (length (ahead z)) ≡ line.left = omega (arith, some line.left q.0, r.rest.1) in
     record { clean = r.clean; cubes = r.cubes; rest = (r.rest.0, all, (above v line.last q''.0, k.1, r.rest.2), r.rest.3, r.rest.4) }
 accepted n most BeforeLine1 cs (tok (eol at) z) out e =
@@ -194,18 +138,6 @@ rising_fits : (n last : ℕ) (l : Line) → Rising n last l → last ≤ n → l
 rising_fits n last [] h le = omega arith
 rising_fits n last (w ∷ l) h le = omega (arith, h.0, rising_fits n (size_in w) l h.2 h.1)
 
-is_zero : (k : ℕ) → 0 ≡ k → eqb k 0 ≡ true
-is_zero k e = grind (arith, nat_tests)
-
-not_zero : (j k : ℕ) → suc j ≡ k → eqb k 0 ≡ false
-not_zero j k e = grind (arith, nat_tests)
-
-not_some : (k : ℕ) → 0 ≡ k → ltb 0 k ≡ false
-not_some k e = grind (arith, nat_tests)
-
-zeros : (j k : ℕ) → 0 ≡ j → 0 ≡ k → (eqb j 0 && eqb k 0) ≡ true
-zeros j k e f = grind (arith, nat_tests)
-
 stopped : (b : Bool) (cs out : Cover) (f : Fault) → b ≡ true → out ≡ cs ++ [] → cond b (Ok cs) (Err f) ≡ Ok out
 stopped b cs out f e o = cond-true _ _ _ e ∙ ap Ok (sym (append-nil cs) ∙ sym o)
 
@@ -222,7 +154,7 @@ reached n most BeforeLine1 cs (tok (num w at) z) cubes out c r =
     let a = alone_is w (ahead z) n r.1.0 in
     passed n most cs z out (minus_in w || not (eqb (size_in w) n)) 30 at (Ok (BeforeLine2 false, None)) (n_is (minus_in w) (size_in w) n a.1.0 a.1.1)
     (reached n most (BeforeLine2 false) cs z cubes out c (r.0, a.0, r.1.1))
-reached n most (BeforeLine2 false) cs (tok (num w at) z) cubes out c r = let o : ◌≡◌ {A = ℕ} 0 1 = cc r.1 in absurd (omega arith)
+reached n most (BeforeLine2 false) cs (tok (num w at) z) cubes out c r = cc r.1
 reached n most (BeforeLine2 true) cs (tok (num w at) z) cubes out c r =
     let a = alone_is w (ahead z) (length cubes) r.1.0 in
     passed n most cs z out (minus_in w || ltb most (size_in w)) 31 at (Ok (on_line (size_in w) 0 0, None)) (to_up (minus_in w) (size_in w) most a.1.0 (omega (arith, a.1.1, r.1.1)))
@@ -240,7 +172,7 @@ reached n most (AmongCubes left (Some line)) cs (tok (num w at) z) cubes out c r
     let v = size_in w in
     let one : length (ahead z) ≡ line.left - 1 = omega (arith, r.1) in
     passed n most cs z out (eqb line.left 0) 35 at (putting? n left line.left line.last w at) (not_zero (length (ahead z)) line.left r.1)
-    (passed n most cs z out (eqb v 0 || ltb n v) 33 at (rising? left line.left line.last w at) (in_variable true v n (omega (arith, r.2.0)) r.2.1)
+    (passed n most cs z out (eqb v 0 || ltb n v) 33 at (rising? left line.left line.last w at) (in_variable v n (omega (arith, r.2.0)) r.2.1)
     (passed n most cs z out (leb v line.last) 34 at (putting left line.left w) (below_it v line.last r.2.0)
     (reached n most (on_line left (line.left - 1) v) (act (Some (Put v (ticked w))) cs) z cubes out c (r.0, one, r.2.2, r.3, r.4))))
 reached n most BeforeLine1 cs (tok (eol at) z) cubes out c r = reached n most BeforeLine1 cs z cubes out c r
@@ -251,11 +183,8 @@ reached n most (AmongCubes left (Some line)) cs (tok (eol at) z) cubes out c r =
     passed n most cs z out (ltb 0 line.left) 36 at (Ok (AmongCubes left None, None)) (not_some line.left r.1) (reached n most (AmongCubes left None) cs z cubes out c (r.0, r.3, r.4))
 
 pub long_not_ok : (b : Bool) (f : Fault) (x : Result Cover Fault) (out : Cover) → cond b (Err f) x ≡ Ok out → (b ≡ false) × (x ≡ Ok out)
-long_not_ok true f x out e = absurd (err_not_ok e)
+long_not_ok true f x out e = cc
 long_not_ok false f x out e = (refl, e)
-
-short_text : (k : ℕ) → ltb 65535 k ≡ false → k ≤ 65535
-short_text k e = grind (arith, nat_tests)
 
 pub worded_are_read : WordedAreRead
 worded_are_read n most text cubes =

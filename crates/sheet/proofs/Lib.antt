@@ -1,6 +1,7 @@
 pub mod Runs
 pub mod Worded
 pub mod Splits
+pub mod Tests
 pub mod Accepts
 pub mod Values
 pub mod Sheets

@@ -10,12 +10,12 @@ use Rattle.cube.specs.declared.slot.Slot.TheVariants.{Blank}
 use Rattle.cube.specs.Slots.{Cube, Cover, blank_cube, with_slot, blank_above}
 use Rattle.text.specs.Numerals.{size_in}
 use Rattle.sheet.specs.Reading.{read_sheet, read_into, Reads}
-use Rattle.sheet.specs.Sheet.{Each, Numeral, number_in, numbers_on, variable_of, slot_of_literal, Rising, literals_over, cube_on, shown, CubeLine, Lines, Sheet, SheetsAreRead, Accepts}
+use Rattle.sheet.specs.Sheet.{Each, Numeral, number_in, numbers_on, variable_of, slot_of_literal, Rising, literals_over, cube_on, CubeLine, Lines, Sheet, SheetsAreRead, Accepts}
 use Rattle.text.specs.Words.{lines_of}
 use Rattle.sheet.proofs.Worded as worded
 use Rattle.sheet.proofs.Worded.{Line, Worded, filling}
 use Rattle.sheet.proofs.Values.{numeral_tells, number_is, is_number, ticked_is}
-use Rattle.sheet.proofs.Accepts.{worded_are_read, long_not_ok, err_not_ok}
+use Rattle.sheet.proofs.Accepts.{worded_are_read, long_not_ok}
 
 abbrev numbers : Line → List ℤ
 numbers l = map number_in l
@@ -114,7 +114,7 @@ reads_ok (Err f) k out h = absurd h
 
 reads_none : (x : Result Cover Fault) (f : Refusal) (out cs : Cover) → Reads x (Err f) out → x ≡ Ok cs → ⊥
 reads_none (Ok c) f out cs h e = h
-reads_none (Err g) f out cs h e = err_not_ok e
+reads_none (Err g) f out cs h e = cc
 
 not_below : (a b : ℕ) → ltb a b ≡ false → b ≤ a
 not_below a b e = grind (arith, nat_tests)
@@ -181,10 +181,3 @@ module _ (n most : ℕ) (text : List ℕ) (cubes : Cover) (s : Sheet n most text
 
   pub sheet_blank : map (blank_above n) cubes ≡ cubes
   sheet_blank = subst (λ cs. map (blank_above n) cs ≡ cs) (sym s.shows) (shown_blank n most (numbers_on text) s.lines)
-
-  pub sheet_shown : cubes ≡ shown text
-  sheet_shown = s.shows
-
--- a text shows one list of cubes, whatever the shape that it is read in
-pub sheet_one : (n most m many : ℕ) (text : List ℕ) (cubes others : Cover) → Sheet n most text cubes → Sheet m many text others → cubes ≡ others
-sheet_one n most m many text cubes others s t = s.shows ∙ sym t.shows

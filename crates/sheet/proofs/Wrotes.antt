@@ -1,5 +1,6 @@
 -- What is written is a sheet of the cubes, and is read as them.
 use Rattle.std.proofs.Common.{◌≡◌, ℕ, zero, suc, ◌+◌, ◌<◌, ◌≤◌, List, [], ◌∷◌, ◌++◌, map, length, take, drop, Ok, Err, Result, refl, ap, ◌∙◌, arith}
+use Rattle.std.proofs.Math.Seq.{take-append_seam}
 use Rattle.cube.specs.declared.refusal.Refusal.{Refusal}
 use Rattle.cube.specs.declared.slot.Slot.TheVariants.{No, Yes, Blank}
 use Rattle.cube.specs.Slots.{Cube, Cover, blank_above}
@@ -30,16 +31,12 @@ pub good_above : {X : Type 0} (n : ℕ) (f : X → Cube) (xs : List X) → ((x :
 good_above n f [] h = tt
 good_above n f (x ∷ xs) h = (length_above n (f x) ∙ h x, under_above n n 1 (f x) (omega arith), good_above n f xs h)
 
-take_front : (xs ys : List ℕ) → take (length xs) (xs ++ ys) ≡ xs
-take_front [] ys = refl
-take_front (x ∷ xs) ys = ap (λ l. x ∷ l) (take_front xs ys)
-
 pub returns_from : (n : ℕ) (cs : Cover) (out out' : List ℕ) (r : Result ℕ Refusal) → n ≤ 20 → Good n cs → Writes (write_sheet n cs) out r out' → Returns n cs r out'
 returns_from n cs out out' (Err f) top good w = tt
 returns_from n cs out out' (Ok k) top good w =
     let text = write_sheet n cs in
     let few : length cs < 100000 = omega (arith, w.1, sheet_long n cs) in
-    let front : take k out' ≡ text = ap (take k) w.3 ∙ ap (λ i. take i (text ++ drop k out)) w.2 ∙ take_front text (drop k out) in
+    let front : take k out' ≡ text = ap (take k) w.3 ∙ ap (λ i. take i (text ++ drop k out)) w.2 ∙ take-append_seam text (drop k out) in
     λ most room. ap (read_sheet n most) front ∙ sheets_return n most cs top room few good w.1
 
 pub wrote_from : (n : ℕ) (cs : Cover) (out : List ℕ) (r : Result ℕ Refusal) → Returns n cs r out → Wrote n cs r out

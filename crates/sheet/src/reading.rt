@@ -20,9 +20,9 @@ pub const MOST_BYTES: usize = 65535;
 #[derive(Clone, Copy)]
 pub enum ReaderState {
     BeforeLine1,
-    // A plain yes or no: whether line 1 has ended.
+    // A yes or no alone: whether no number has been met on the line, since line 1 has ended.
     BeforeLine2 { fresh: bool },
-    // How many cubes are still to come, and the line that has begun.
+    // How many cubes are still to come, and the line, where a number has been met on it.
     AmongCubes { left: u32, line: Option<Literals> },
 }
 
@@ -37,6 +37,7 @@ pub struct Literals {
 #[derive(Clone, Copy)]
 pub enum Deed {
     Open,
+    // The number alone, since the theorems speak of any number of variables, also above 20.
     Put { variable: u32, slot: Slot },
 }
 
@@ -199,7 +200,9 @@ fn next_literal(
 // Does to the first `count` cubes of `out` what is asked, and returns how many there then are.
 // The project lends tables, so the cubes stand at the front of one with their number beside it.
 fn perform<C: CubeNotation>(deed: Option<Deed>, out: &mut [C], count: usize) -> usize
-    requires { (Ready (length out.old) deed count) × ((Within 20 deed) × (count ≤ length out.old)) }
+    requires ready { Ready (length out.old) deed count }
+    requires within { Within 20 deed }
+    requires fits { count ≤ length out.old }
     ensures number { result ≡ counted deed count }
     ensures cubes { take result (map C.slots out.new) ≡ act deed (take count (map C.slots out.old)) }
     ensures kept { (most : ℕ) → Ready most deed count → drop most out.new ≡ drop most out.old }
