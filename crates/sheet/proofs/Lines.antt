@@ -78,10 +78,14 @@ filled_above (suc n) (No ∷ c) = ap suc (filled_above n c)
 filled_above (suc n) (Yes ∷ c) = ap suc (filled_above n c)
 filled_above (suc n) (Blank ∷ c) = filled_above n c
 
-pub cube_above : (n : ℕ) (c : Cube) → decimal (filled (take n c)) ++ (write_literals 1 (take n c) ++ 10 ∷ []) ≡ write_cube (blank_above n c)
+cube_above : (n : ℕ) (c : Cube) → decimal (filled (take n c)) ++ (write_literals 1 (take n c) ++ 10 ∷ []) ≡ write_cube (blank_above n c)
 cube_above n c =
     ap (λ k. decimal k ++ (write_literals 1 (take n c) ++ 10 ∷ [])) (sym (filled_above n c))
     ∙ ap (λ z. decimal (filled (blank_above n c)) ++ (z ++ 10 ∷ [])) (sym (literals_above n 1 c))
+
+-- the line of a cube, with as many literals as there are
+pub cube_puts : {w a b w' : Writer} (n k : ℕ) (c : Cube) → Puts w (decimal k) a → Puts a (write_literals 1 (take n c)) b → Puts b (10 ∷ []) w' → k ≡ filled (take n c) → Puts w (write_cube (blank_above n c)) w'
+cube_puts n k c x y z e = puts_as (ap (λ i. decimal i ++ (write_literals 1 (take n c) ++ 10 ∷ [])) e ∙ cube_above n c) (puts_then x (puts_then y z))
 
 cubes_push : (cs : Cover) (c : Cube) → write_cubes (cs ++ c ∷ []) ≡ write_cubes cs ++ write_cube c
 cubes_push [] c = append-nil (write_cube c)

@@ -77,4 +77,3 @@ zeros j k e f = grind (arith, nat_tests)
 
 pub short_text : (k : ℕ) → ltb 65535 k ≡ false → k ≤ 65535
 short_text k e = grind (arith, nat_tests)
-

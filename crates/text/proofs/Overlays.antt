@@ -39,9 +39,6 @@ laid_front {out} {text} {out'} {r} l h few =
     let e : r ≡ length text = omega (arith, l.place) in
     (e, l.over ∙ overlay_fits out text h ∙ ap (λ k. text ++ drop k out) (sym e))
 
-pub puts_none : (w : Writer) → Puts w [] w
-puts_none w = record { same_reference = refl; laid = record { place = omega (arith, w.countable); over = refl } }
-
 pub puts_then : {w m w' : Writer} {xs ys : List ℕ} → Puts w xs m → Puts m ys w' → Puts w (xs ++ ys) w'
 puts_then {w} {m} {w'} {xs} {ys} a b =
     record {

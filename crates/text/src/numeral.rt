@@ -2,7 +2,7 @@
 ghost use Rattle.std.specs.Prelude.{◌≡◌, ◌<◌, ◌≤◌, length};
 ghost use Rattle.text.specs.Numerals.{size_in, minus_in, signed};
 
-/// The bytes of a number: at most five digits, and a minus before them or none.
+/// The bytes of a number: at most six, a minus among them or none.
 #[derive(Clone, Copy)]
 pub struct Numeral<'a> {
     pub text: &'a [u8],
@@ -10,7 +10,7 @@ pub struct Numeral<'a> {
 }
 
 impl<'a> Numeral<'a> {
-    // What is no digit is passed over.
+    // A loop, since std's `parse` can fail and this cannot, and the limit of a sum in `fold` did not prove.
     fn size(self) -> u32
         ensures value { result ≡ size_in self.entry.text.now }
         ensures bound { result < 1000000 }
