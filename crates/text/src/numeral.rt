@@ -10,7 +10,7 @@ pub struct Numeral<'a> {
 }
 
 impl<'a> Numeral<'a> {
-    // A loop, since std's `parse` can fail and this cannot, and the limit of a sum in `fold` did not prove.
+    // A loop: std's `parse` may fail where this may not, and in a `fold` the proof that the sum fits did not close.
     fn size(self) -> u32
         ensures value { result ≡ size_in self.entry.text.now }
         ensures bound { result < 1000000 }
