@@ -1,9 +1,9 @@
 -- A run goes on line by line.
-use Rattle.std.proofs.Common.{◌≡◌, ℕ, ◌≤◌, Bool, true, false, cond, List, [], ◌∷◌, ◌++◌, length, take, drop, ℤ, Some, None, Ok, vec_items, Option, sym, refl, ap, ◌∙◌, subst, append_assoc, append-nil, arith, length-append}
-use Rattle.std.proofs.lemmas.List.{take_at}
-use Rattle.std.proofs.lemmas.Bool.{cond-true, cond-false, le-leb}
+use Rattle.std.proofs.Common.{is_some, map, ControlFlow, Continue, Break, ◌≡◌, ℕ, ◌≤◌, true, List, [], ◌∷◌, ◌++◌, length, take, drop, ℤ, IfOk, Some, None, Ok, Err, vec_items, Option, Result, sym, refl, ap, ◌∙◌, subst, append_assoc, append-nil, arith, length-append}
+use Rattle.std.proofs.lemmas.List.{take_at, nil_from_length}
+use Rattle.std.proofs.lemmas.Bool.{cond-true, le-leb}
 use Rattle.cube.specs.Refusals.{Fault}
-use Rattle.cube.specs.Slots.{Cover}
+use Rattle.cube.specs.Slots.{Cube, Cover}
 use Rattle.life.specs.Call.{Event}
 use Rattle.life.specs.View.{View}
 use Rattle.command.specs.declared.parse.Command.{Command}
@@ -14,13 +14,18 @@ use Rattle.command.specs.Asked.Asked.{make}
 use Rattle.command.specs.Lines.{Line, lines_of}
 use Rattle.command.specs.Output.{Put}
 use Rattle.command.specs.Report.{report}
+use Rattle.calculator.specs.declared.calculator.Calculator.{Calculator}
 use Rattle.session.specs.declared.run.Run.{Run}
 use Rattle.session.specs.Run.{Status, Setting, Turned, Ran, printed}
-use Rattle.session.specs.Run.Status.{waiting, running, over}
+use Rattle.session.specs.Run.Status.{waiting, over}
 use Rattle.session.specs.Run.Turned.{after_end}
 use Rattle.session.specs.Run.Ran.{begun, then}
-use Rattle.session.specs.Seen.{Left}
-use Rattle.session.specs.Midway.{Midway}
+use Rattle.session.specs.declared.failure.Failure.{Failure}
+use Rattle.session.specs.Seen.{Into, LineRan, Left, status_after}
+use Rattle.session.specs.declared.line.Desk.{Desk}
+use Rattle.session.specs.Desk.{IsKept, setting_at}
+use Rattle.std.specs.ControlFlow.{break_value}
+use Rattle.session.specs.Midway.{Midway, Finished}
 use Rattle.session.specs.Ran.{TextRan}
 use Rattle.session.proofs.Asking.{first_makes}
 use Rattle.session.proofs.Lives.{ran_alive}
@@ -53,10 +58,6 @@ module _ {at : Setting} where
   pub at_first : (ls : List Line) → Midway at ls ls waiting []
   at_first ls = record { seen = []; events = []; split = refl; ran = begun }
 
-  -- a line ended the run
-  pub ended : {ls rest : List Line} {out : List ℕ} (on : Bool) (v : View) → on ≡ false → Midway at ls rest (cond on (running v) (over (Some v))) out → Midway at ls [] (over (Some v)) out
-  ended {ls} {rest} {out} on v e m = after_all rest (subst (λ s. Midway at ls rest s out) (cond-false on (running v) (over (Some v)) e) m)
-
   -- all lines of the text were run
   pub text_ran : {ls : List Line} {text out : List ℕ} {s : Status} (run : Run) (cells : Cover) → ls ≡ lines_of text → Midway at ls [] s out → vec_items run.output ≡ out → Left at.cells s run.calculator cells → TextRan at text run cells
   text_ran {ls} {text} {out} {s} run cells is m prints left = record {
@@ -67,9 +68,28 @@ module _ {at : Setting} where
     alive = ran_alive m.ran;
   }
 
-  -- the first command was refused, and its line is printed
-  pub refused_first : {ls rest : List Line} {l : Line} (line : ℕ) (layer : Layer) (f g : Fault) → l.number ≡ line → g ≡ f → Midway at ls (l ∷ rest) waiting [] → Turned at waiting l [] (over None) (report l.number layer f) → Midway at ls rest (over None) (printed at line (report line layer g))
-  refused_first line layer f g e same m turned = next_line m turned (ap (λ h. printed at line (report line layer h)) same ∙ ap (λ n. printed at n (report n layer f)) (sym e))
+-- a line that goes on nowhere has printed nothing
+pub last_line : {at : Setting} {ls rest : List Line} {l : Line} {s t : Status} {out page page' : List ℕ} → Midway at ls (l ∷ rest) s out → LineRan at s l t page (Ok 0) page' → Midway at ls rest t out
+last_line {at} {l} {s} {t} m r = silent_line m (subst (λ text. Turned at s l r.events t text) (nil_from_length r.text (sym r.put.size)) r.turned)
+
+-- the first command was refused, and its line is printed
+pub refused_first : {at : Setting} {ls rest : List Line} {l : Line} (layer : Layer) {f g : Fault} → g ≡ f → Midway at ls (l ∷ rest) waiting [] → Turned at waiting l [] (over None) (report l.number layer f) → Midway at ls rest (over None) (printed at l.number (report l.number layer g))
+refused_first {at} {l} layer same m turned = next_line m turned (ap (λ h. printed at l.number (report l.number layer h)) same)
+
+-- a line ended the run
+pub ended : {B C : Type 0} {at : Setting} {ls rest : List Line} {out : List ℕ} {v : View} (flow : ControlFlow B C) → is_some (break_value flow) ≡ true → Midway at ls rest (status_after flow v) out → Midway at ls [] (over (Some v)) out
+ended (Continue c) e m = let no : ◌≡◌ {A = ℕ} 0 1 = cc in absurd (omega arith)
+ended {rest} (Break b) e m = after_all rest m
+
+pub same_setting : {C : Type 0} {old new : Desk C} (cells : Cover) → IsKept old new → setting_at cells new ≡ setting_at cells old
+same_setting cells k = cc
+
+pub finished : {C : Type 0} (slots : C → Cube) {at : Setting} {ls : List Line} {s : Status} {out out' : List ℕ} {d e : Desk C} → d ≡ e → out' ≡ out → Midway at ls [] s out → Left at.cells s (Some e.calculator) (map slots e.table.now) → Finished at ls d.calculator (map slots d.table.now) out'
+finished slots {at} {ls} {s} is prints m left = record {
+  status = s;
+  midway = subst (λ o. Midway at ls [] s o) (sym prints) m;
+  left = subst (λ d. Left at.cells s (Some d.calculator) (map slots d.table.now)) (sym is) left;
+}
 
 -- the same run in the same setting
 pub in_setting : {at at' : Setting} {ls rest : List Line} {s : Status} {out : List ℕ} → at ≡ at' → Midway at ls rest s out → Midway at' ls rest s out
@@ -89,10 +109,16 @@ pub only_make : (c : Command) (l : Line) → asked_on true l.at l.bytes ≡ Ok (
 only_make c l asks none = let m = first_makes l (asked c) asks in none m.0 (is_make c m.0 m.1)
 
 -- what was put into the bytes stands at their front, and is printed
-pub put_within : {t before after : List ℕ} {k : ℕ} → Put t before k after → k ≤ length after
-put_within {t} {before} {after} {k} p = omega (arith, p.size, simp length-append at (ap length p.over))
+pub put_within : (t before after : List ℕ) (r : Result ℕ Failure) → Into t before r after → IfOk r (λ k. k ≤ length after)
+put_within t before after (Ok k) p = omega (arith, p.size, simp length-append at (ap length p.over))
+put_within t before after (Err f) p = tt
 
 pub front_printed : (at : Setting) (line : ℕ) {t before after : List ℕ} {k : ℕ} → at.room ≡ length before → Put t before k after → take k after ≡ printed at line t
 front_printed at line {t} {before} {after} {k} room p =
     let fits : length t ≤ at.room = omega (arith, p.fits) in
     ap (take k) p.over ∙ take_at t (drop k before) k (sym p.size) ∙ sym (cond-true _ _ _ (le-leb (length t) at.room fits))
+
+-- the run that finished leaves the table as it is behind the reference
+pub finished_text : {C : Type 0} (slots : C → Cube) {at : Setting} {ls : List Line} {table table' : List C} {calculator : Calculator} (text : List ℕ) (run : Run) → ls ≡ lines_of text → Finished at ls calculator (map slots table) (vec_items run.output) → run.calculator ≡ Some calculator → table' ≡ table → TextRan at text run (map slots table')
+finished_text slots {at} {table} {table'} text run is f left same =
+    text_ran run (map slots table') is f.midway refl (subst (λ t. Left at.cells f.status run.calculator (map slots t)) (sym same) (subst (λ k. Left at.cells f.status k (map slots table)) (sym left) f.left))

@@ -4,8 +4,8 @@ use Rattle.std.proofs.lemmas.List.{length-take-le, take-append-drop}
 use Rattle.command.specs.Output.{Put}
 
 -- nothing was printed
-pub put_none : (out : List ℕ) → Put [] out 0 out
-put_none out = record { fits = omega arith; size = refl; over = refl }
+pub put_none : {out out' : List ℕ} → out' ≡ out → Put [] out 0 out'
+put_none same = record { fits = omega arith; size = refl; over = same }
 
 -- a text stands at the front of the bytes, and those past it are as they were
 pub put_front : (text out out' : List ℕ) (k : ℕ) → length out' ≡ length out → k ≤ length out → take k out' ≡ text → drop k out' ≡ drop k out → Put text out k out'

@@ -1,14 +1,14 @@
 -- A run on its way: some lines were run, and the others are to come.
-use Rattle.std.specs.Prelude.{◌≡◌, ℕ, List, [], ◌++◌, None}
-use Rattle.cube.specs.Refusals.{fault_of}
+use Rattle.std.specs.Prelude.{◌≡◌, ℕ, List, [], ◌++◌, Some, None, Ok, Err, Option, Result}
+use Rattle.calculator.specs.declared.calculator.Calculator.{Calculator}
 use Rattle.calculator.specs.Seen.{view}
+use Rattle.cube.specs.Slots.{Cover}
 use Rattle.command.specs.Lines.{Line}
-use Rattle.command.specs.Report.{report}
+use Rattle.command.specs.declared.report.RefusedLine.{RefusedLine}
 use Rattle.life.specs.Call.{Event}
-use Rattle.session.specs.declared.run.Opening.{Opening}
-use Rattle.session.specs.declared.run.Opening.TheVariants.{Silent, Refused, Made}
 use Rattle.session.specs.Run.{Status, Setting, Ran, printed}
 use Rattle.session.specs.Run.Status.{waiting, running, over}
+use Rattle.session.specs.Seen.{report_of, Left}
 
 pub record Midway (at : Setting) (ls rest : List Line) (s : Status) (out : List ℕ) : Type 0 where
   pub seen : List Line
@@ -17,7 +17,13 @@ pub record Midway (at : Setting) (ls rest : List Line) (s : Status) (out : List 
   pub ran : Ran at seen events s out
 
 -- the lines up to the first command: there is none, it was refused, or it made a calculator
-abbrev pub Opens : Setting → List Line → Opening → List Line → Type 0
-Opens at ls Silent rest = Midway at ls [] waiting []
-Opens at ls (Refused x) rest = Midway at ls rest (over None) (printed at x.line (report x.line x.layer (fault_of x.refusal)))
-Opens at ls (Made calculator) rest = Midway at ls rest (running (view calculator at.cells)) []
+abbrev pub Opens : Setting → List Line → Result (Option Calculator) RefusedLine → List Line → Type 0
+Opens at ls (Ok None) rest = Midway at ls [] waiting []
+Opens at ls (Ok (Some calculator)) rest = Midway at ls rest (running (view calculator at.cells)) []
+Opens at ls (Err x) rest = Midway at ls rest (over None) (printed at x.line (report_of x))
+
+-- all lines were run, and they left this calculator with these cubes
+pub record Finished (at : Setting) (ls : List Line) (calculator : Calculator) (cells : Cover) (out : List ℕ) : Type 0 where
+  pub status : Status
+  pub midway : Midway at ls [] status out
+  pub left : Left at.cells status (Some calculator) cells

@@ -1,16 +1,11 @@
 // One command line, run against a calculator.
-ghost use Rattle.std.specs.Prelude.{◌≡◌, ℕ, true, false, map, length, Some, Ok};
-ghost use Rattle.cube.specs.Refusals.{fault_of};
-ghost use Rattle.cube.specs.Slots.{Cover};
-ghost use Rattle.calculator.specs.Seen.{view};
-ghost use Rattle.command.specs.Report.{report};
-ghost use Rattle.command.specs.Asked.{asked_on, asked};
-ghost use Rattle.command.specs.Asked.Asked.{read, print};
-ghost use Rattle.command.specs.Cut.{line_of};
-ghost use Rattle.command.specs.Lines.{Line};
-ghost use Rattle.life.specs.View.{View};
-ghost use Rattle.session.specs.Run.Status.{running};
-ghost use Rattle.session.specs.Seen.{Into, LineRan, setting, printed_of, status_after};
+ghost use Rattle.std.specs.Prelude.{◌≡◌, map, length, IfOk};
+ghost use Rattle.life.specs.Call.{event};
+ghost use Rattle.life.specs.Call.Call.{write as writing};
+ghost use Rattle.life.specs.View.{Stepped};
+ghost use Rattle.calculator.specs.Seen.{view, text_outcome};
+ghost use Rattle.calculator.specs.Kept.{Put};
+ghost use Rattle.session.specs.Seen.{report_of, Into};
 
 use crate::failure::Failure;
 use calculator::calculator::Calculator;
@@ -22,162 +17,139 @@ use command::parse::{Command, parse};
 use command::report::{Layer, RefusedLine};
 use cube::notation::CubeNotation;
 use cube::refusal::Refusal;
-use std::alloc::Global;
+use std::alloc::{AllocError, Global};
+use std::ops::ControlFlow;
 
 /// The most bytes of a sheet that the console takes.
 pub const MOST_SHEET_BYTES: usize = 8192;
 
-// The refusal of a text that is longer than the bytes given.
-const TEXT_TOO_LONG: u8 = 8;
-
-/// What a line did: how many bytes it printed, and whether the run goes on.
-#[derive(Clone, Copy)]
-pub struct Turn {
-    pub printed: usize,
-    pub goes_on: bool,
-}
-
-impl Turn {
-    fn after(printed: Result<usize, Failure>) -> Result<Turn, Failure>
-        ensures printed { printed_of result ≡ printed }
-        ensures on { (v : View) → status_after result v ≡ running v }
-    {
-        match printed {
-            Ok(printed) => Ok(Turn {
-                printed,
-                goes_on: true,
-            }),
-            Err(failure) => Err(failure),
-        }
-    }
-}
-
-/// Puts the line of a refusal into the bytes given.
-pub fn refuse(
-    heap: Global,
-    line: usize,
-    layer: Layer,
-    refusal: Refusal,
-    out: &mut [u8],
-) -> Result<usize, Failure>
-    ensures { Into (report line layer (fault_of refusal)) out.old result out.new }
+// What is refused on a line.
+pub(crate) fn refused_at(line: CommandLine, layer: Layer, refusal: Refusal) -> RefusedLine
+    ensures { result ≡ record { line = line.entry.number; layer = layer; refusal = refusal } }
 {
-    let refused = RefusedLine {
-        line,
+    RefusedLine {
+        line: line.number,
         layer,
         refusal,
-    };
-    match format!(in heap; "{refused}") {
-        Ok(text) => match put_text(text.as_bytes(), out) {
-            Ok(length) => Ok(length),
-            Err(refusal) => Err(Failure::Refused(refusal)),
-        },
-        Err(_) => Err(Failure::OutOfMemory),
     }
 }
 
-// Reads the file of register k; one that is too large for the console is no sheet.
-fn read_line<C: CubeNotation>(
-    heap: Global,
+// The text of a refused line.
+pub(crate) fn told(heap: Global, refused: RefusedLine) -> Result<Vec<u8>, AllocError>
+    ensures { IfOk result (λ bytes. bytes.items ≡ report_of refused) }
+{
+    Ok(format!(in heap; "{refused}")?.into_bytes())
+}
+
+/// Puts the text of a refused line into the bytes given.
+pub fn refuse(heap: Global, refused: RefusedLine, out: &mut [u8]) -> Result<usize, Failure>
+    ensures { Into (report_of refused) out.old result out.new }
+{
+    let text = told(heap, refused)?;
+    Ok(put_text(&text, out)?)
+}
+
+// Writes register k as a sheet; a desk has no way yet to lend one field as `&` and others as `&mut`.
+fn write<C: CubeNotation>(
     calculator: &mut Calculator,
     k: RegisterNumber,
-    line: usize,
-    files: &Files,
     table: &mut [C],
-    working: &mut [C],
-    out: &mut [u8],
-) -> Result<usize, Failure>
-    ensures { (cells : Cover) (l : Line) → l.number ≡ line → asked_on false l.at l.bytes ≡ Ok (Some (read k.number)) → LineRan (setting files.now cells (length working.old) (length out.old)) (running (view calculator.old (map C.slots table.old))) l (running (view calculator.new (map C.slots table.new))) out.old result out.new }
+    page: &mut [u8],
+) -> Result<usize, Refusal>
+    ensures step { Stepped (view calculator.old (map C.slots table.old)) (event (writing k.number (length page.old)) 0 (text_outcome result page.new)) (view calculator.old (map C.slots table.old)) }
+    ensures kept { Put result calculator.old page.old calculator.new page.new }
+    ensures same { view calculator.new (map C.slots table.new) ≡ view calculator.old (map C.slots table.old) }
 {
-    let Some(bytes) = files.sheet(k) else {
-        return refuse(heap, line, Layer::Command, Refusal::NoSuchFile, out);
-    };
-    if bytes.len() > MOST_SHEET_BYTES {
-        return refuse(heap, line, Layer::Sheet, Refusal::TextTooLong, out);
-    }
-    match calculator.read(k, bytes, table, working) {
-        Ok(()) => Ok(0),
-        Err(refusal) => refuse(heap, line, Layer::of_call(refusal), refusal, out),
-    }
+    calculator.write(k, table, page)
 }
 
-// Prints register k as a sheet.
-fn print_line<C: CubeNotation>(
-    heap: Global,
-    calculator: &mut Calculator,
-    k: RegisterNumber,
-    line: usize,
-    table: &[C],
-    out: &mut [u8],
-) -> Result<usize, Failure>
-    ensures { (files : Files) (cells : Cover) (working : ℕ) (l : Line) → l.number ≡ line → asked_on false l.at l.bytes ≡ Ok (Some (print k.number)) → LineRan (setting files cells working (length out.old)) (running (view calculator.old (map C.slots table.now))) l (running (view calculator.new (map C.slots table.now))) out.old result out.new }
-{
-    match calculator.write(k, table, out) {
-        Ok(length) => Ok(length),
-        Err(refusal) => {
-            if refusal.number() == TEXT_TOO_LONG {
-                return Err(Failure::Refused(refusal));
-            }
-            refuse(heap, line, Layer::of_call(refusal), refusal, out)
+/// A calculator at work: the files of its registers, the tables that it is lent, and the bytes for the text of a line.
+#[derive(Drop)]
+pub struct Desk<'a, C> {
+    pub heap: Global,
+    pub calculator: Calculator,
+    pub files: &'a Files,
+    pub table: &'a mut [C],
+    pub working: &'a mut [C],
+    pub page: &'a mut [u8],
+}
+
+impl<C: CubeNotation> Desk<'_, C> {
+    ghost use Rattle.std.specs.Prelude.{Ok};
+    ghost use Rattle.cube.specs.Slots.{Cover};
+    ghost use Rattle.command.specs.Asked.{asked};
+    ghost use Rattle.command.specs.Asked.Asked.{read, print};
+    ghost use Rattle.command.specs.Cut.{line_of};
+    ghost use Rattle.session.specs.Run.Status.{running};
+    ghost use Rattle.session.specs.Seen.{LineDone, LineRan, text_of, printed_of, status_after};
+    ghost use Rattle.session.specs.Desk.{Asks, IsKept, setting_at, seen};
+
+    // Reads the file of register k; one that is too large for the console is no sheet.
+    fn read_line(&mut self, k: RegisterNumber, line: CommandLine) -> Result<(), RefusedLine>
+        ensures done { (cells : Cover) → Asks line.entry (read k.number) → LineDone (setting_at cells self.old) (running (seen C.slots self.old)) (line_of line.entry) (running (seen C.slots self.new)) (text_of result) }
+        ensures page { self.new.page.now ≡ self.old.page.now }
+        ensures kept { IsKept self.old self.new }
+    {
+        let Some(bytes) = self.files.sheet(k) else {
+            return Err(refused_at(line, Layer::Command, Refusal::NoSuchFile));
+        };
+        if bytes.len() > MOST_SHEET_BYTES {
+            return Err(refused_at(line, Layer::Sheet, Refusal::TextTooLong));
+        }
+        match self.calculator.read(k, bytes, self.table, self.working) {
+            Ok(()) => Ok(()),
+            Err(refusal) => Err(refused_at(line, Layer::of_call(refusal), refusal)),
         }
     }
-}
 
-// Does what a line asks, once it has been parsed.
-fn run_command<C: CubeNotation>(
-    heap: Global,
-    calculator: &mut Calculator,
-    command: Command,
-    line: usize,
-    files: &Files,
-    table: &mut [C],
-    working: &mut [C],
-    out: &mut [u8],
-) -> Result<Turn, Failure>
-    ensures { (cells : Cover) (l : Line) → l.number ≡ line → asked_on false l.at l.bytes ≡ Ok (Some (asked command)) → LineRan (setting files.now cells (length working.old) (length out.old)) (running (view calculator.old (map C.slots table.old))) l (status_after result (view calculator.new (map C.slots table.new))) out.old (printed_of result) out.new }
-{
-    match command {
-        Command::Read { register } => Turn::after(read_line(
-            heap, calculator, register, line, files, table, working, out,
-        )),
-        Command::Print { register } => Turn::after(print_line(
-            heap, calculator, register, line, table, out,
-        )),
-        Command::Quit => Ok(Turn {
-            printed: 0,
-            goes_on: false,
-        }),
-        // Only the first line makes a calculator, and a later one is never parsed so.
-        Command::Make { .. } => Ok(Turn {
-            printed: 0,
-            goes_on: true,
-        }),
+    // Prints register k as a sheet.
+    fn print_line(&mut self, k: RegisterNumber, line: CommandLine) -> Result<usize, Failure>
+        ensures ran { (cells : Cover) → Asks line.entry (print k.number) → LineRan (setting_at cells self.old) (running (seen C.slots self.old)) (line_of line.entry) (running (seen C.slots self.new)) self.old.page.now result self.new.page.now }
+        ensures kept { IsKept self.old self.new }
+    {
+        match write(&mut self.calculator, k, self.table, self.page) {
+            Ok(length) => Ok(length),
+            Err(refusal) if refusal == Refusal::OutputTooShort => Err(Failure::Refused(refusal)),
+            Err(refusal) => {
+                let refused = refused_at(line, Layer::of_call(refusal), refusal);
+                refuse(self.heap, refused, self.page)
+            }
+        }
     }
-}
 
-/// Runs one line after the first command, and puts what it prints into the bytes given.
-pub fn run_line<C: CubeNotation>(
-    heap: Global,
-    calculator: &mut Calculator,
-    line: CommandLine,
-    files: &Files,
-    table: &mut [C],
-    working: &mut [C],
-    out: &mut [u8],
-) -> Result<Turn, Failure>
-    ensures { (cells : Cover) → LineRan (setting files.now cells (length working.old) (length out.old)) (running (view calculator.old (map C.slots table.old))) (line_of line.entry) (status_after result (view calculator.new (map C.slots table.new))) out.old (printed_of result) out.new }
-{
-    let number = line.number;
-    match parse(line, false) {
-        Ok(asked) => match asked {
-            Some(command) => run_command(
-                heap, calculator, command, number, files, table, working, out,
-            ),
-            None => Ok(Turn {
-                printed: 0,
-                goes_on: true,
-            }),
-        },
-        Err(refusal) => Turn::after(refuse(heap, number, Layer::Command, refusal, out)),
+    // Does what a line asks, once it has been parsed.
+    fn run_command(
+        &mut self,
+        command: Command,
+        line: CommandLine,
+    ) -> ControlFlow<(), Result<usize, Failure>>
+        ensures ran { (cells : Cover) → Asks line.entry (asked command) → LineRan (setting_at cells self.old) (running (seen C.slots self.old)) (line_of line.entry) (status_after result (seen C.slots self.new)) self.old.page.now (printed_of result) self.new.page.now }
+        ensures kept { IsKept self.old self.new }
+    {
+        match command {
+            Command::Read { register } => match self.read_line(register, line) {
+                Ok(()) => ControlFlow::Continue(Ok(0)),
+                Err(refused) => ControlFlow::Continue(refuse(self.heap, refused, self.page)),
+            },
+            Command::Print { register } => ControlFlow::Continue(self.print_line(register, line)),
+            Command::Quit => ControlFlow::Break(()),
+            // Only the first line makes a calculator, and a later one is never parsed so.
+            Command::Make { .. } => ControlFlow::Break(()),
+        }
+    }
+
+    /// Runs one line after the first command, and puts what it prints into the page; a `Break` ends the run.
+    pub fn run_line(&mut self, line: CommandLine) -> ControlFlow<(), Result<usize, Failure>>
+        ensures ran { (cells : Cover) → LineRan (setting_at cells self.old) (running (seen C.slots self.old)) (line_of line.entry) (status_after result (seen C.slots self.new)) self.old.page.now (printed_of result) self.new.page.now }
+        ensures kept { IsKept self.old self.new }
+    {
+        match parse(line, false) {
+            Ok(Some(command)) => self.run_command(command, line),
+            Ok(None) => ControlFlow::Continue(Ok(0)),
+            Err(refusal) => {
+                let refused = refused_at(line, Layer::Command, refusal);
+                ControlFlow::Continue(refuse(self.heap, refused, self.page))
+            }
+        }
     }
 }

@@ -5,9 +5,7 @@ ghost use Rattle.session.specs.Page.{SheetsFit, ReportsFit};
 pub const PAGE_BYTES: usize = 9612;
 
 /// With a page of that size no line is refused with 8.
-pub fn page_is_enough() -> bool
+pub fn page_is_enough()
     ensures sheets { SheetsFit }
     ensures reports { ReportsFit }
-{
-    true
-}
+{}

@@ -1,10 +1,10 @@
 use Rattle.std.proofs.Common.{◌≡◌, ℕ, ◌<◌, true, ◌⊎◌, ℤ, pos, Some, Ok, sym, refl, ap, ◌∙◌, subst, inl, inr, arith, w32, SFits, rules}
 use Rattle.std.proofs.lemmas.Int.{to_z-of_z}
 use Rattle.cube.specs.Ranges.{Outside}
-use Rattle.cube.specs.Refusals.{fault}
 use Rattle.command.specs.declared.report.Layer.TheVariants.{Calculator}
 use Rattle.command.specs.Asked.{asked, asked_on}
 use Rattle.command.specs.Asked.Asked.{make}
+use Rattle.command.specs.Cut.{line_of}
 use Rattle.session.specs.Run.Turned.{shape_refused, makes}
 use Rattle.session.proofs.Midway.{silent_line, refused_first, only_make}
 use Rattle.session.proofs.run.begin.Goals as goal
@@ -18,7 +18,8 @@ outside z (inr (inl h)) = absurd (omega arith)
 outside z (inr (inr h)) = absurd (omega arith)
 
 pub returns-in-Ok : goal.returns-in-Ok
-returns-in-Ok c at ls rest l number asks m =
+returns-in-Ok c at ls rest asks m =
+    let l = line_of c.args.line in
     let fits : SFits w32 c.in-Make.variables = search rules in
     let e = c.in-Ok.ensures in
     let same = c.new-in-Ok.ensures.made.0 in
@@ -28,12 +29,13 @@ returns-in-Ok c at ls rest l number asks m =
     silent_line m (makes asked-make (c.new-in-Ok.ensures.made.1 at.cells) (ap (λ s. s.places) same ∙ few_places _ e.1) refl)
 
 pub returns-in-Err : goal.returns-in-Err
-returns-in-Err c at ls rest l number asks m =
+returns-in-Err c at ls rest asks m =
+    let l = line_of c.args.line in
     let fits : SFits w32 c.in-Make.variables = search rules in
     let e = c.in-Err.ensures in
     let z = c.in-Make.variables in
     let asked-make : asked_on true l.at l.bytes ≡ Ok (Some (make z)) = asks ∙ ap (λ k. Ok (Some (asked k))) c.in-Make.is in
-    refused_first c.args.line Calculator (fault 3 0) _ number e.0 m (shape_refused asked-make (subst (Outside 1 20) (to_z-of_z w32 z fits) (outside _ e.1)))
+    rw c.refused_at.ensures (refused_first Calculator e.0 m (shape_refused asked-make (subst (Outside 1 20) (to_z-of_z w32 z fits) (outside _ e.1))))
 
 pub returns-in_default : goal.returns-in_default
-returns-in_default c at ls rest l number asks m = absurd (only_make c.args.command l asks c.in_default.not-Make)
+returns-in_default c at ls rest asks m = absurd (only_make c.args.command (line_of c.args.line) asks c.in_default.not-Make)

@@ -1,5 +1,4 @@
 use Rattle.std.proofs.Common.{◌≡◌, true, Some, None, Ok, sym, refl, rules}
-use Rattle.cube.specs.Refusals.{fault_of}
 use Rattle.command.specs.declared.report.Layer.TheVariants.{Command}
 use Rattle.command.specs.Asked.{asked, asked_on}
 use Rattle.command.specs.Cut.{line_of}
@@ -20,9 +19,7 @@ pub returns-in-Ok-Some : goal.returns-in-Ok-Some
 returns-in-Ok-Some c at =
     let l = line_of c.in-Some.line in
     let e : asked_on true l.at l.bytes ≡ Ok (Some (asked c.in-Ok-Some.command)) = search rules in
-    c.begin.ensures at _ _ l refl e (coming (c.loop-line.invariant at) c.in-Some.ensures)
+    c.begin.ensures at _ _ e (coming (c.loop-line.invariant at) c.in-Some.ensures)
 
 pub returns-in-Err : goal.returns-in-Err
-returns-in-Err c at =
-    let f = fault_of c.in-Err.refusal in
-    refused_first c.in-Some.line.number Command f f refl refl (coming (c.loop-line.invariant at) c.in-Some.ensures) (first_refused (sym c.in-Err.ensures))
+returns-in-Err c at = rw c.refused_at.ensures (refused_first Command refl (coming (c.loop-line.invariant at) c.in-Some.ensures) (first_refused (sym c.in-Err.ensures)))
