@@ -6,8 +6,6 @@ use Rattle.cube.specs.Refusals.{Fault}
 use Rattle.cube.specs.Slots.{Cube, Cover}
 use Rattle.life.specs.Call.{Event}
 use Rattle.life.specs.View.{View}
-use Rattle.command.specs.declared.parse.Command.{Command}
-use Rattle.command.specs.declared.parse.Command.TheVariants.{Make, Read, Print, Quit}
 use Rattle.command.specs.declared.report.Layer.{Layer}
 use Rattle.command.specs.Asked.{asked, asked_on}
 use Rattle.command.specs.Asked.Asked.{make}
@@ -27,7 +25,6 @@ use Rattle.session.specs.Desk.{IsKept, setting_at}
 use Rattle.std.specs.ControlFlow.{break_value}
 use Rattle.session.specs.Midway.{Midway, Finished}
 use Rattle.session.specs.Ran.{TextRan}
-use Rattle.session.proofs.Asking.{first_makes}
 use Rattle.session.proofs.Lives.{ran_alive}
 
 none_printed : (at : Setting) (n : ℕ) → printed at n [] ≡ []
@@ -84,29 +81,16 @@ ended {rest} (Break b) e m = after_all rest m
 pub same_setting : {C : Type 0} {old new : Desk C} (cells : Cover) → IsKept old new → setting_at cells new ≡ setting_at cells old
 same_setting cells k = cc
 
-pub finished : {C : Type 0} (slots : C → Cube) {at : Setting} {ls : List Line} {s : Status} {out out' : List ℕ} {d e : Desk C} → d ≡ e → out' ≡ out → Midway at ls [] s out → Left at.cells s (Some e.calculator) (map slots e.table.now) → Finished at ls d.calculator (map slots d.table.now) out'
+pub finished : {C : Type 0} (slots : C → Cube) {at : Setting} {ls : List Line} {s : Status} {out out' : List ℕ} {d e : Desk C} → d ≡ e → out' ≡ out → Midway at ls [] s out → Left at.cells s (Some e.calculator.now) (map slots e.table.now) → Finished at ls d.calculator.now (map slots d.table.now) out'
 finished slots {at} {ls} {s} is prints m left = record {
   status = s;
   midway = subst (λ o. Midway at ls [] s o) (sym prints) m;
-  left = subst (λ d. Left at.cells s (Some d.calculator) (map slots d.table.now)) (sym is) left;
+  left = subst (λ d. Left at.cells s (Some d.calculator.now) (map slots d.table.now)) (sym is) left;
 }
 
 -- the same run in the same setting
 pub in_setting : {at at' : Setting} {ls rest : List Line} {s : Status} {out : List ℕ} → at ≡ at' → Midway at ls rest s out → Midway at' ls rest s out
 in_setting {at} {at'} {ls} {rest} {s} {out} e m = subst (λ z. Midway z ls rest s out) e m
-
-pub of_text : {at : Setting} {ls ls' rest : List Line} {s : Status} {out : List ℕ} → ls ≡ ls' → Midway at ls rest s out → Midway at ls' rest s out
-of_text {at} {ls} {ls'} {rest} {s} {out} e m = subst (λ z. Midway at z rest s out) e m
-
--- a command that is parsed as the first makes a calculator
-is_make : (c : Command) (z : ℤ) → asked c ≡ make z → c ≡ Make z
-is_make (Make x) z e = let same : x ≡ z = cc in ap Make same
-is_make (Read k) z e = let no : ◌≡◌ {A = ℕ} 0 1 = cc in absurd (omega arith)
-is_make (Print k) z e = let no : ◌≡◌ {A = ℕ} 0 1 = cc in absurd (omega arith)
-is_make Quit z e = let no : ◌≡◌ {A = ℕ} 0 1 = cc in absurd (omega arith)
-
-pub only_make : (c : Command) (l : Line) → asked_on true l.at l.bytes ≡ Ok (Some (asked c)) → ((z : ℤ) → c ≡ Make z → ⊥) → ⊥
-only_make c l asks none = let m = first_makes l (asked c) asks in none m.0 (is_make c m.0 m.1)
 
 -- what was put into the bytes stands at their front, and is printed
 pub put_within : (t before after : List ℕ) (r : Result ℕ Failure) → Into t before r after → IfOk r (λ k. k ≤ length after)

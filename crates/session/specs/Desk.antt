@@ -10,18 +10,19 @@ use Rattle.session.specs.Run.{Setting}
 use Rattle.session.specs.Seen.{setting}
 
 -- a line after the first command asks this
-abbrev pub Asks : CommandLine → Asked → Type 0
-Asks line a = asked_on false line.start (drop line.start line.text.now) ≡ Ok (Some a)
+abbrev pub LaterAsks : CommandLine → Asked → Type 0
+LaterAsks line a = asked_on false line.start (drop line.start line.text.now) ≡ Ok (Some a)
 
 abbrev pub setting_at : {C : Type 0} → Cover → Desk C → Setting
 setting_at cells d = setting d.files.now cells (length d.working.now) (length d.page.now)
 
 abbrev pub seen : {C : Type 0} → (C → Cube) → Desk C → View
-seen slots d = view d.calculator (map slots d.table.now)
+seen slots d = view d.calculator.now (map slots d.table.now)
 
--- the files are the same, and the tables and the page are still the ones that were lent
+-- the files are the same, and the calculator, the tables and the page are still the ones that were lent
 pub record IsKept {C : Type 0} (old new : Desk C) : Type 0 where
   pub files : new.files.now ≡ old.files.now
+  pub calculator : new.calculator.ghost_name ≡ old.calculator.ghost_name
   pub table : new.table.ghost_name ≡ old.table.ghost_name
   pub working : new.working.ghost_name ≡ old.working.ghost_name
   pub page : new.page.ghost_name ≡ old.page.ghost_name

@@ -22,6 +22,12 @@ Opens at ls (Ok None) rest = Midway at ls [] waiting []
 Opens at ls (Ok (Some calculator)) rest = Midway at ls rest (running (view calculator at.cells)) []
 Opens at ls (Err x) rest = Midway at ls rest (over None) (printed at x.line (report_of x))
 
+-- one line before the first command: it has none, it is refused, or it makes a calculator
+abbrev pub Begins : Setting → List Line → Result (Option Calculator) RefusedLine → List Line → Type 0
+Begins at ls (Ok None) rest = Midway at ls rest waiting []
+Begins at ls (Ok (Some calculator)) rest = Opens at ls (Ok (Some calculator)) rest
+Begins at ls (Err x) rest = Opens at ls (Err x) rest
+
 -- all lines were run, and they left this calculator with these cubes
 pub record Finished (at : Setting) (ls : List Line) (calculator : Calculator) (cells : Cover) (out : List ℕ) : Type 0 where
   pub status : Status

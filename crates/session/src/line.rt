@@ -13,7 +13,7 @@ use calculator::register::RegisterNumber;
 use command::files::Files;
 use command::lines::CommandLine;
 use command::output::put_text;
-use command::parse::{Command, parse};
+use command::parse::{Command, parse_later};
 use command::report::{Layer, RefusedLine};
 use cube::notation::CubeNotation;
 use cube::refusal::Refusal;
@@ -56,7 +56,7 @@ fn write<C: CubeNotation>(
     table: &mut [C],
     page: &mut [u8],
 ) -> Result<usize, Refusal>
-    ensures step { Stepped (view calculator.old (map C.slots table.old)) (event (writing k.number (length page.old)) 0 (text_outcome result page.new)) (view calculator.old (map C.slots table.old)) }
+    ensures step { Stepped (view calculator.old (map C.slots table.old)) (event (writing k.number.value (length page.old)) 0 (text_outcome result page.new)) (view calculator.old (map C.slots table.old)) }
     ensures kept { Put result calculator.old page.old calculator.new page.new }
     ensures same { view calculator.new (map C.slots table.new) ≡ view calculator.old (map C.slots table.old) }
 {
@@ -67,7 +67,7 @@ fn write<C: CubeNotation>(
 #[derive(Drop)]
 pub struct Desk<'a, C> {
     pub heap: Global,
-    pub calculator: Calculator,
+    pub calculator: &'a mut Calculator,
     pub files: &'a Files,
     pub table: &'a mut [C],
     pub working: &'a mut [C],
@@ -82,11 +82,11 @@ impl<C: CubeNotation> Desk<'_, C> {
     ghost use Rattle.command.specs.Cut.{line_of};
     ghost use Rattle.session.specs.Run.Status.{running};
     ghost use Rattle.session.specs.Seen.{LineDone, LineRan, text_of, printed_of, status_after};
-    ghost use Rattle.session.specs.Desk.{Asks, IsKept, setting_at, seen};
+    ghost use Rattle.session.specs.Desk.{LaterAsks, IsKept, setting_at, seen};
 
     // Reads the file of register k; one that is too large for the console is no sheet.
     fn read_line(&mut self, k: RegisterNumber, line: CommandLine) -> Result<(), RefusedLine>
-        ensures done { (cells : Cover) → Asks line.entry (read k.number) → LineDone (setting_at cells self.old) (running (seen C.slots self.old)) (line_of line.entry) (running (seen C.slots self.new)) (text_of result) }
+        ensures done { (cells : Cover) → LaterAsks line.entry (read k.number.value) → LineDone (setting_at cells self.old) (running (seen C.slots self.old)) (line_of line.entry) (running (seen C.slots self.new)) (text_of result) }
         ensures page { self.new.page.now ≡ self.old.page.now }
         ensures kept { IsKept self.old self.new }
     {
@@ -104,10 +104,10 @@ impl<C: CubeNotation> Desk<'_, C> {
 
     // Prints register k as a sheet.
     fn print_line(&mut self, k: RegisterNumber, line: CommandLine) -> Result<usize, Failure>
-        ensures ran { (cells : Cover) → Asks line.entry (print k.number) → LineRan (setting_at cells self.old) (running (seen C.slots self.old)) (line_of line.entry) (running (seen C.slots self.new)) self.old.page.now result self.new.page.now }
+        ensures ran { (cells : Cover) → LaterAsks line.entry (print k.number.value) → LineRan (setting_at cells self.old) (running (seen C.slots self.old)) (line_of line.entry) (running (seen C.slots self.new)) self.old.page.now result self.new.page.now }
         ensures kept { IsKept self.old self.new }
     {
-        match write(&mut self.calculator, k, self.table, self.page) {
+        match write(self.calculator, k, self.table, self.page) {
             Ok(length) => Ok(length),
             Err(refusal) if refusal == Refusal::OutputTooShort => Err(Failure::Refused(refusal)),
             Err(refusal) => {
@@ -123,7 +123,7 @@ impl<C: CubeNotation> Desk<'_, C> {
         command: Command,
         line: CommandLine,
     ) -> ControlFlow<(), Result<usize, Failure>>
-        ensures ran { (cells : Cover) → Asks line.entry (asked command) → LineRan (setting_at cells self.old) (running (seen C.slots self.old)) (line_of line.entry) (status_after result (seen C.slots self.new)) self.old.page.now (printed_of result) self.new.page.now }
+        ensures ran { (cells : Cover) → LaterAsks line.entry (asked command) → LineRan (setting_at cells self.old) (running (seen C.slots self.old)) (line_of line.entry) (status_after result (seen C.slots self.new)) self.old.page.now (printed_of result) self.new.page.now }
         ensures kept { IsKept self.old self.new }
     {
         match command {
@@ -133,8 +133,6 @@ impl<C: CubeNotation> Desk<'_, C> {
             },
             Command::Print { register } => ControlFlow::Continue(self.print_line(register, line)),
             Command::Quit => ControlFlow::Break(()),
-            // Only the first line makes a calculator, and a later one is never parsed so.
-            Command::Make { .. } => ControlFlow::Break(()),
         }
     }
 
@@ -143,9 +141,11 @@ impl<C: CubeNotation> Desk<'_, C> {
         ensures ran { (cells : Cover) → LineRan (setting_at cells self.old) (running (seen C.slots self.old)) (line_of line.entry) (status_after result (seen C.slots self.new)) self.old.page.now (printed_of result) self.new.page.now }
         ensures kept { IsKept self.old self.new }
     {
-        match parse(line, false) {
-            Ok(Some(command)) => self.run_command(command, line),
-            Ok(None) => ControlFlow::Continue(Ok(0)),
+        match parse_later(line) {
+            Ok(asked) => match asked {
+                Some(command) => self.run_command(command, line),
+                None => ControlFlow::Continue(Ok(0)),
+            },
             Err(refusal) => {
                 let refused = refused_at(line, Layer::Command, refusal);
                 ControlFlow::Continue(refuse(self.heap, refused, self.page))

@@ -1,12 +1,11 @@
 // A whole command text, run line by line.
-ghost use Rattle.std.specs.Prelude.{◌≡◌, ℕ, ◌<◌, ◌≤◌, true, List, [], ◌∷◌, ◌++◌, map, length, IfOk, Some, None, Ok, OnOk};
-ghost use Rattle.command.specs.Asked.{asked_on, asked};
+ghost use Rattle.std.specs.Prelude.{◌≡◌, ℕ, ◌<◌, ◌≤◌, List, [], ◌∷◌, ◌++◌, map, length, IfOk, Some, None, Ok, OnOk};
 ghost use Rattle.command.specs.Cut.{line_of, lines_left};
 ghost use Rattle.command.specs.Lines.{Line};
 ghost use Rattle.session.specs.Run.{Setting, printed};
 ghost use Rattle.session.specs.Run.Status.{waiting};
 ghost use Rattle.session.specs.Seen.{report_of, Into, setting};
-ghost use Rattle.session.specs.Midway.{Midway, Opens, Finished};
+ghost use Rattle.session.specs.Midway.{Midway, Begins, Opens, Finished};
 ghost use Rattle.session.specs.Ran.{TextRan, TextRefused};
 
 use crate::failure::Failure;
@@ -14,7 +13,7 @@ use crate::line::{Desk, refuse, refused_at, told};
 use calculator::calculator::Calculator;
 use command::files::Files;
 use command::lines::{CommandLine, Lines};
-use command::parse::{Command, parse};
+use command::parse::parse_first;
 use command::report::{Layer, RefusedLine};
 use cube::notation::CubeNotation;
 use cube::refusal::Refusal;
@@ -35,17 +34,18 @@ pub struct Run {
     pub calculator: Option<Calculator>,
 }
 
-// The first command makes the calculator.
-fn begin(line: CommandLine, command: Command) -> Result<Option<Calculator>, RefusedLine>
-    ensures { (at : Setting) (ls rest : List Line) → asked_on true (line_of line.entry).at (line_of line.entry).bytes ≡ Ok (Some (asked command)) → Midway at ls (line_of line.entry ∷ rest) waiting [] → Opens at ls result rest }
+// What a line makes where no command came before it; nothing if it has separators alone.
+fn begin(line: CommandLine) -> Result<Option<Calculator>, RefusedLine>
+    ensures { (at : Setting) (ls rest : List Line) → Midway at ls (line_of line.entry ∷ rest) waiting [] → Begins at ls result rest }
 {
-    match command {
-        Command::Make { variables } => match Shape::new(variables, PLACES) {
-            Ok(shape) => Ok(Some(Calculator::new(shape))),
-            Err(refusal) => Err(refused_at(line, Layer::Calculator, refusal)),
-        },
-        // No other command is parsed as the first.
-        _ => Ok(None),
+    let variables = match parse_first(line) {
+        Ok(Some(variables)) => variables,
+        Ok(None) => return Ok(None),
+        Err(refusal) => return Err(refused_at(line, Layer::Command, refusal)),
+    };
+    match Shape::new(variables, PLACES) {
+        Ok(shape) => Ok(Some(Calculator::new(shape))),
+        Err(refusal) => Err(refused_at(line, Layer::Calculator, refusal)),
     }
 }
 
@@ -53,11 +53,10 @@ fn begin(line: CommandLine, command: Command) -> Result<Option<Calculator>, Refu
 fn open(lines: &mut Lines) -> Result<Option<Calculator>, RefusedLine>
     ensures { (at : Setting) → Opens at (lines_left lines.old) result (lines_left lines.new) }
 {
+    // A `for` over the `&mut` leaves unknown, in proofs, which lines are left after it.
     while let Some(line) = lines.next() {
-        match parse(line, true) {
-            Ok(None) => {}
-            Ok(Some(command)) => return begin(line, command),
-            Err(refusal) => return Err(refused_at(line, Layer::Command, refusal)),
+        if let Some(calculator) = begin(line)? {
+            return Ok(Some(calculator));
         }
     }
     Ok(None)
@@ -126,12 +125,12 @@ impl<C: CubeNotation> Desk<'_, C> {
     }
 
     // The lines after the first command.
-    fn run_lines(&mut self, mut lines: Lines) -> Result<Vec<u8>, AllocError>
-        ensures ran { (cells : Cover) (ls : List Line) → Midway (setting_at cells self.old) ls (lines_left lines.entry) (running (seen C.slots self.old)) [] → IfOk result (λ output. Finished (setting_at cells self.old) ls self.new.calculator (map C.slots self.new.table.now) output.items) }
+    fn run_lines(&mut self, lines: Lines) -> Result<Vec<u8>, AllocError>
+        ensures ran { (cells : Cover) (ls : List Line) → Midway (setting_at cells self.old) ls (lines_left lines.entry) (running (seen C.slots self.old)) [] → IfOk result (λ output. Finished (setting_at cells self.old) ls self.new.calculator.now (map C.slots self.new.table.now) output.items) }
         ensures kept { IsKept self.old self.new }
     {
         let mut output = Vec::new(self.heap);
-        while let Some(line) = lines.next() {
+        for line in lines {
             if self.run_and_print(line, &mut output)?.is_break() {
                 break;
             }
@@ -165,10 +164,10 @@ pub fn run_text<C: CubeNotation>(
     }
     let mut lines = Lines::new(text);
     match open(&mut lines) {
-        Ok(Some(calculator)) => {
+        Ok(Some(mut calculator)) => {
             let mut desk = Desk {
                 heap,
-                calculator,
+                calculator: &mut calculator,
                 files,
                 table,
                 working,
@@ -177,7 +176,7 @@ pub fn run_text<C: CubeNotation>(
             let output = desk.run_lines(lines)?;
             Ok(Run {
                 output,
-                calculator: Some(desk.calculator),
+                calculator: Some(calculator),
             })
         }
         Ok(None) => Ok(Run {

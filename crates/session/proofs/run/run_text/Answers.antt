@@ -1,4 +1,4 @@
-use Rattle.std.proofs.Common.{map, length, None, sym, refl, subst, rules}
+use Rattle.std.proofs.Common.{ap, Some, map, length, None, sym, refl, subst, rules}
 use Rattle.std.proofs.lemmas.Result.{IfOk-weaker}
 use Rattle.session.specs.Run.Status.{over}
 use Rattle.session.specs.Seen.{setting, Left}
@@ -10,7 +10,7 @@ returns-in_ok-output-in-Ok-Some-clause-short g c = λ h.
     let cells = map g.C.CubeNotation.slots c.args.table.now in
     let at = setting c.args.files.now cells (length c.args.working.now) (length c.args.page.now) in
     let m = rw c.in-Ok-Some.field-0-is at c.in-Ok-Some.ensures at in
-    finished_text g.C.CubeNotation.slots _ _ c.new-lines.ensures (c.in_ok-output-in-Ok-Some.ensures.ran cells _ m) refl (search rules)
+    finished_text g.C.CubeNotation.slots _ _ c.new-lines.ensures (c.in_ok-output-in-Ok-Some.ensures.ran cells _ m) (ap Some (search rules)) (search rules)
 
 pub returns-in-Ok-None-clause-short : goal.returns-in-Ok-None-clause-short
 returns-in-Ok-None-clause-short g c = λ h.

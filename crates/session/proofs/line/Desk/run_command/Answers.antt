@@ -1,8 +1,6 @@
 use Rattle.std.proofs.Common.{Some, Ok, refl, ap, ◌∙◌, subst}
 use Rattle.command.specs.Asked.{asked}
-use Rattle.command.specs.Cut.{line_of}
 use Rattle.session.specs.Seen.{Into, report_of}
-use Rattle.session.proofs.Asking.{never_makes}
 use Rattle.session.proofs.Putting.{put_none}
 use Rattle.session.proofs.Turning.{done_put, line_quits}
 use Rattle.session.proofs.line.Desk.run_command.Goals as goal
@@ -18,6 +16,3 @@ returns-in-Err-clause-ran g c = λ cells asks.
 
 pub returns-in-Quit-clause-ran : goal.returns-in-Quit-clause-ran
 returns-in-Quit-clause-ran g c = λ cells asks. done_put (line_quits _ _ _ (asks ∙ ap (λ k. Ok (Some (asked k))) c.in-Quit.is)) (put_none refl)
-
-pub returns-in-Make-clause-ran : goal.returns-in-Make-clause-ran
-returns-in-Make-clause-ran g c = λ cells asks. absurd (never_makes (line_of c.args.line) _ (asks ∙ ap (λ k. Ok (Some (asked k))) c.in-Make.is))

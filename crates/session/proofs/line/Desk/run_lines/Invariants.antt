@@ -1,4 +1,4 @@
-use Rattle.std.proofs.Common.{List, [], length, vec_items}
+use Rattle.std.proofs.Common.{List, [], vec_items}
 use Rattle.cube.specs.Slots.{Cover}
 use Rattle.command.specs.Cut.{lines_left}
 use Rattle.command.specs.Lines.{Line}
@@ -12,10 +12,7 @@ invariant-loop-line g l =
     let slots = g.C.CubeNotation.slots in
     let first = l.initial.self in
     record {
-      ran : (cells : Cover) (ls : List Line) → Midway (setting_at cells first) ls (lines_left l.initial.lines) (running (seen slots first)) []
-          → Midway (setting_at cells first) ls (lines_left l.lines) (running (seen slots l.self)) (vec_items l.output);
+      ran : (cells : Cover) (ls : List Line) → Midway (setting_at cells first) ls (lines_left l.fn.lines) (running (seen slots first)) []
+          → Midway (setting_at cells first) ls (lines_left l.line-iterator) (running (seen slots l.self)) (vec_items l.output);
       kept : IsKept first l.self;
     }
-
-abbrev pub decreases-loop-line : goal.decreases-loop-line
-decreases-loop-line g l = length (lines_left l.lines)
