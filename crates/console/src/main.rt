@@ -7,9 +7,9 @@ use positional::PositionalCube;
 use session::line::MOST_SHEET_BYTES;
 use session::page::PAGE_BYTES;
 use session::run::{MOST_COMMAND_BYTES, run_text};
-use std::alloc::{AllocError, Global};
+use std::alloc::Global;
 use std::fs;
-use std::io::{self, Read, Write};
+use std::io::{self, ErrorKind, Read, Write};
 
 const REGISTERS: u8 = 32;
 
@@ -17,50 +17,36 @@ const REGISTER_CUBES: usize = 2048;
 
 const WORKING_CUBES: usize = 4096;
 
-// What a source holds, up to one part more than `most` bytes; none where it cannot be read.
-fn read_some<R: Read>(
-    heap: Global,
-    source: &mut R,
-    most: usize,
-) -> Result<Option<Vec<u8>>, AllocError> {
+// What a source holds, up to one byte more than `most`; none where it cannot be read.
+fn read_some<R: Read + Drop>(heap: Global, source: R, most: usize) -> io::Result<Option<Vec<u8>>> {
     let mut bytes = Vec::new(heap);
-    for _ in 0..=most {
-        let mut part = [0u8; 512];
-        match source.read(&mut part) {
-            Ok(0) => break,
-            Ok(count) => bytes.extend_from_slice(&part[0..count])?,
-            Err(_) => return Ok(None),
-        }
-        if bytes.len() > most {
-            break;
-        }
-    }
-    Ok(Some(bytes))
-}
-
-// The file of register k, if there is one that can be read.
-fn read_sheet_file(rt: &HostRuntime, k: u8) -> Result<Option<Vec<u8>>, AllocError> {
-    let name = format!(in rt.alloc(); "{k}.pcn")?;
-    match fs::open(rt, name.as_str()) {
-        Ok(mut file) => read_some(rt.alloc(), &mut file, MOST_SHEET_BYTES),
+    let limit = (most as u64).saturating_add(1);
+    match source.take(limit).read_to_end(&mut bytes) {
+        Ok(_) => Ok(Some(bytes)),
+        Err(error) if error.kind() == ErrorKind::OutOfMemory => Err(error),
         Err(_) => Ok(None),
     }
 }
 
-fn read_files(rt: &HostRuntime) -> Result<Files, AllocError> {
-    let mut sheets = Vec::new(rt.alloc());
-    for k in 0..REGISTERS {
-        sheets.push(read_sheet_file(rt, k)?)?;
+// The file of register k, if there is one that can be read.
+fn read_sheet_file(rt: &HostRuntime, k: u8) -> io::Result<Option<Vec<u8>>> {
+    let name = format!(in rt.alloc(); "{k}.pcn")?;
+    match fs::open(rt, name.as_str()) {
+        Ok(file) => read_some(rt.alloc(), file, MOST_SHEET_BYTES),
+        Err(_) => Ok(None),
     }
+}
+
+fn read_files(rt: &HostRuntime) -> io::Result<Files> {
+    let sheets = (0..REGISTERS)
+        .map(|k| read_sheet_file(rt, k))
+        .try_collect(rt.alloc())?;
     Ok(Files { sheets })
 }
 
 fn main(rt: HostRuntime) -> io::Result<()> {
     let heap = rt.alloc();
-    let text = match read_some(heap, &mut rt.stdin(), MOST_COMMAND_BYTES)? {
-        Some(bytes) => bytes,
-        None => Vec::new(heap),
-    };
+    let text = read_some(heap, rt.stdin(), MOST_COMMAND_BYTES)?.unwrap_or(Vec::new(heap));
     let files = read_files(&rt)?;
     let mut table = vec![in heap; PositionalCube::blank(); REGISTER_CUBES]?;
     let mut working = vec![in heap; PositionalCube::blank(); WORKING_CUBES]?;

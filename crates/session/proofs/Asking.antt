@@ -1,6 +1,6 @@
 -- What a line after the first command can ask: it reads or prints one of the 32 registers, or ends the run.
-use Rattle.std.proofs.Common.{◌≡◌, ℕ, ◌+◌, ◌<◌, Bool, true, false, eqb, leb, List, [], ◌∷◌, ℤ, pos, negsuc, IfOk, Some, None, Ok, Err, Option, Result, sym, refl, subst, arith}
-use Rattle.std.proofs.lemmas.Bool.{cond_both, leb-true, eqb-true}
+use Rattle.std.proofs.Common.{◌≡◌, ℕ, ◌+◌, ◌<◌, Bool, true, false, eqb, leb, List, [], ◌∷◌, ℤ, pos, negsuc, IfOk, Some, None, Ok, Err, Option, Result, subst, arith}
+use Rattle.std.proofs.lemmas.Bool.{cond_both, leb-true}
 use Rattle.std.proofs.lemmas.Bool.Decides.{nat_tests}
 use Rattle.cube.specs.Refusals.{Fault, fault}
 use Rattle.text.specs.Words.{gap}
