@@ -8,6 +8,7 @@ use itoa::{Buffer, Integer};
 pub struct Writer<'a> {
     out: &'a mut [u8],
     end: usize,
+    // What the types say, for the proofs that see a writer behind a reference.
     ghost countable: { (length out.now < 2 ^ 64) × (end < 2 ^ 64) },
 }
 

@@ -33,7 +33,8 @@ fn past_separators(text: &[u8], from: usize) -> usize
 
 // The first place from `from` on that holds no digit.
 fn past_digits(text: &[u8], start: usize, first: usize, from: usize) -> usize
-    requires { (from ≤ length text.now) × (start ≤ from) }
+    requires inside { from ≤ length text.now }
+    requires begun { start ≤ from }
     ensures after { from ≤ result }
     ensures within { result ≤ length text.now }
     ensures stops { result < length text.now → kind (slice_index text.now result) ≢ Digit }
@@ -45,13 +46,16 @@ fn past_digits(text: &[u8], start: usize, first: usize, from: usize) -> usize
 // The place of the first digit of the number that begins at `start`.
 #[tactic(auto, using(crate::proofs::Streams::opens_digit, crate::proofs::Streams::opens_minus, crate::proofs::Streams::lone_minus, crate::proofs::Streams::stray))]
 fn first_digit(text: &[u8], start: usize) -> Result<usize, Refusal>
-    requires { (start < length text.now) × ((kind (slice_index text.now start) ≢ Separator) × (kind (slice_index text.now start) ≢ LineFeed)) }
+    requires inside { start < length text.now }
+    requires word { kind (slice_index text.now start) ≢ Separator }
+    requires line { kind (slice_index text.now start) ≢ LineFeed }
     ensures { MatchResult result (λ first. Opens text.now start first) (λ f. tokens_from text.now start ≡ bad (fault_of f).number (fault_of f).offset) }
 {
     match Kind::from(text[start]) {
         Kind::Digit => Ok(start),
         Kind::Minus => {
-            if start + 1 < text.len() && Kind::from(text[start + 1]) == Kind::Digit {
+            let next = text.get(start + 1).map(|b| Kind::from(*b));
+            if next == Some(Kind::Digit) {
                 Ok(start + 1)
             } else {
                 Err(Refusal::MinusWithoutDigit { at: start })
@@ -68,11 +72,9 @@ fn number_end(text: &[u8], start: usize, first: usize) -> Result<usize, Refusal>
     ensures { MatchResult result (λ end. Closes text.now start end) (λ f. tokens_from text.now start ≡ bad (fault_of f).number (fault_of f).offset) }
 {
     let end = past_digits(text, start, first, first + 1);
-    if end < text.len() {
-        match Kind::from(text[end]) {
-            Kind::Separator | Kind::LineFeed => {}
-            _ => return Err(Refusal::ByteNotAllowed { at: end }),
-        }
+    match text.get(end).map(|b| Kind::from(*b)) {
+        None | Some(Kind::Separator | Kind::LineFeed) => {}
+        _ => return Err(Refusal::ByteNotAllowed { at: end }),
     }
     if end - first > MOST_DIGITS {
         return Err(Refusal::SixthDigit { at: start });
@@ -82,7 +84,8 @@ fn number_end(text: &[u8], start: usize, first: usize) -> Result<usize, Refusal>
 
 // The token that begins at `start`, and where it ends.
 fn token_at(text: &[u8], start: usize) -> Result<(Token<'_>, usize), Refusal>
-    requires { (start < length text.now) × (kind (slice_index text.now start) ≢ Separator) }
+    requires inside { start < length text.now }
+    requires word { kind (slice_index text.now start) ≢ Separator }
     ensures { MatchResult result (λ p. Step text.now start (tok_of p.0) p.1) (λ f. tokens_from text.now start ≡ bad (fault_of f).number (fault_of f).offset) }
 {
     if Kind::from(text[start]) == Kind::LineFeed {
