@@ -96,8 +96,7 @@ pub fn write_sheet<C: CubeNotation>(
     ensures sheet { Wrote shape.variables.value (map (blank_above shape.variables.value) (map C.slots cubes.now)) result out.new }
     ensures reads_back { Returns shape.variables.value (map (blank_above shape.variables.value) (map C.slots cubes.now)) result out.new }
 {
-    let mut none: [u8; 0] = [];
-    let length = put_sheet(shape, cubes, &mut none);
+    let length = put_sheet(shape, cubes, &mut []);
     if length > out.len() || length > MOST_BYTES {
         return Err(Refusal::OutputTooShort);
     }
