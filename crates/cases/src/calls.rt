@@ -5,19 +5,30 @@ use cube::notation::CubeNotation;
 use cube::refusal::Refusal;
 use cube::shape::Shape;
 use std::alloc::{AllocError, Global};
-use std::process::Abort;
 
-/// A new calculator of n variables and four places a register that has read a text into register k.
-pub fn read<C: CubeNotation>(
-    n: i32,
-    k: i32,
-    text: &[u8],
-    table: &mut [C],
-    working: &mut [C],
-) -> Result<Calculator, Refusal> {
-    let mut calculator = Calculator::new(Shape::new(n, 4)?);
-    calculator.read(RegisterNumber::new(k)?, text, table, working)?;
-    Ok(calculator)
+/// The tables that a host lends at each call.
+#[derive(Drop)]
+pub struct Tables<C> {
+    pub registers: Vec<C>,
+    pub working: Vec<C>,
+}
+
+impl<C: CubeNotation> Tables<C> {
+    /// Tables of so many cubes and so much room, each place filled with the same cube.
+    pub fn new(heap: Global, fill: C, cubes: usize, room: usize) -> Result<Self, AllocError> {
+        Ok(Tables {
+            registers: vec![in heap; fill; cubes]?,
+            working: vec![in heap; fill; room]?,
+        })
+    }
+
+    /// A new calculator of n variables and four places a register that has read a text into register k.
+    pub fn read(&mut self, n: i32, k: i32, text: &[u8]) -> Result<Calculator, Refusal> {
+        let mut calculator = Calculator::new(Shape::new(n, 4)?);
+        let k = RegisterNumber::try_from(k)?;
+        calculator.read(k, text, &mut self.registers, &mut self.working)?;
+        Ok(calculator)
+    }
 }
 
 /// The length of what a write of register k leaves in the bytes given.
@@ -27,7 +38,7 @@ pub fn write<C: CubeNotation>(
     table: &[C],
     out: &mut [u8],
 ) -> Result<usize, Refusal> {
-    calculator.write(RegisterNumber::new(k)?, table, out)
+    calculator.write(RegisterNumber::try_from(k)?, table, out)
 }
 
 /// A text, and before it as many of a byte as make up a length.
@@ -37,7 +48,15 @@ pub fn padded(heap: Global, fill: u8, text: &[u8], length: usize) -> Result<Vec<
     Ok(bytes)
 }
 
-/// Checks what is said of a text, 0 and 0 or the number and the offset of its refusal; a failure names the row.
-pub fn check_said(rt: &impl Abort, said: (u8, usize), number: u8, offset: usize, row: &str) {
-    assert_eq!(rt; said, (number, offset), "{}", row);
+/// An answer, or the number and the offset of its refusal.
+pub fn told<T>(answer: Result<T, Refusal>) -> Result<T, (u8, usize)> {
+    answer.map_err(|refusal| (refusal.number(), refusal.offset()))
+}
+
+/// What a row expects: this answer where its number is 0, and else a refusal with that number and offset.
+pub fn expected<T: Copy>(answer: T, number: u8, offset: usize) -> Result<T, (u8, usize)> {
+    match number {
+        0 => Ok(answer),
+        _ => Err((number, offset)),
+    }
 }

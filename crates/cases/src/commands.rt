@@ -1,5 +1,5 @@
 // Whole command texts, and all that they print.
-use crate::calls::padded;
+use crate::calls::{Tables, padded};
 use crate::notations::{MinMaxCube, PositionalCube};
 use command::files::Files;
 use cube::notation::CubeNotation;
@@ -227,10 +227,10 @@ fn sheet(heap: Global, file: Option<(&str, usize)>) -> Result<Option<Vec<u8>>, A
 }
 
 fn folder(heap: Global) -> Result<Files, AllocError> {
-    let mut sheets = Vec::new(heap);
-    for &file in &FOLDER {
-        sheets.push(sheet(heap, file)?)?;
-    }
+    let sheets = FOLDER
+        .iter()
+        .map(|file| sheet(heap, *file))
+        .try_collect(heap)?;
     Ok(Files { sheets })
 }
 
@@ -238,83 +238,51 @@ fn check_text<C: CubeNotation>(
     rt: &impl Abort,
     heap: Global,
     files: &Files,
+    tables: &mut Tables<C>,
+    page: &mut [u8],
     text: &[u8],
     output: &str,
-    table: &mut [C],
-    working: &mut [C],
-    page: &mut [u8],
 ) -> Result<(), Fail> {
-    let run = run_text(heap, text, files, table, working, page)?;
+    let run = run_text(
+        heap,
+        text,
+        files,
+        &mut tables.registers,
+        &mut tables.working,
+        page,
+    )?;
     assert_eq!(rt; &run.output[..], output.as_bytes(), "{}", output);
     Ok(())
 }
 
-fn check_texts<C: CubeNotation>(
-    rt: &impl Abort,
-    heap: Global,
-    table: &mut [C],
-    working: &mut [C],
-) -> Result<(), Fail> {
+fn check_texts<C: CubeNotation>(rt: &impl Abort, heap: Global) -> Result<(), Fail> {
     let files = folder(heap)?;
+    let mut tables = Tables::new(heap, C::blank(), 2048, 4096)?;
     for &(text, output) in &TEXTS {
-        let mut page = [0; 99];
         check_text(
             rt,
             heap,
             &files,
+            &mut tables,
+            &mut [0; 99],
             text.as_bytes(),
             output,
-            table,
-            working,
-            &mut page,
         )?;
     }
     for &(bytes, output) in &BYTES {
-        let mut page = [0; 99];
-        check_text(rt, heap, &files, bytes, output, table, working, &mut page)?;
+        check_text(rt, heap, &files, &mut tables, &mut [0; 99], bytes, output)?;
     }
     Ok(())
 }
 
 #[test]
 fn texts_print(rt: HostRuntime) -> Result<(), Fail> {
-    let mut table = [PositionalCube::blank(); 2048];
-    let mut working = [PositionalCube::blank(); 4096];
-    check_texts::<PositionalCube>(&rt, rt.alloc(), &mut table, &mut working)
+    check_texts::<PositionalCube>(&rt, rt.alloc())
 }
 
 #[test]
 fn texts_print_the_same_in_min_max(rt: HostRuntime) -> Result<(), Fail> {
-    let mut table = [MinMaxCube::blank(); 2048];
-    let mut working = [MinMaxCube::blank(); 4096];
-    check_texts::<MinMaxCube>(&rt, rt.alloc(), &mut table, &mut working)
-}
-
-// Tables and a page of any lengths.
-fn check_lengths(
-    rt: &impl Abort,
-    heap: Global,
-    files: &Files,
-    text: &[u8],
-    cubes: usize,
-    room: usize,
-    bytes: usize,
-    output: &str,
-) -> Result<(), Fail> {
-    let mut table = [PositionalCube::blank(); 2048];
-    let mut working = [PositionalCube::blank(); 4096];
-    let mut page = [0; 99];
-    assert!(rt; cubes <= 2048 && room <= 4096 && bytes <= 99);
-    check_text::<PositionalCube>(
-        rt,
-        heap,
-        files,
-        text,
-        output,
-        &mut table[0..cubes],
-        &mut working[0..room],
-        &mut page[0..bytes],
-    )
+    check_texts::<MinMaxCube>(&rt, rt.alloc())
 }
 
 #[test]
@@ -323,7 +291,9 @@ fn texts_tables_and_pages_have_lengths(rt: HostRuntime) -> Result<(), Fail> {
     let files = folder(heap)?;
     for &(text, length, cubes, room, bytes, output) in &LENGTHS {
         let text = padded(heap, b'\n', text.as_bytes(), length)?;
-        check_lengths(&rt, heap, &files, &text, cubes, room, bytes, output)?;
+        let mut tables = Tables::new(heap, PositionalCube::blank(), cubes, room)?;
+        let mut page = vec![in heap; 0; bytes]?;
+        check_text(&rt, heap, &files, &mut tables, &mut page, &text, output)?;
     }
     Ok(())
 }

@@ -1,10 +1,11 @@
 // What a host puts into the register table between two calls, and what a read leaves there.
-use crate::calls::{read, write};
+use crate::calls::{Tables, write};
 use crate::notations::{MinMaxCube, PositionalCube};
 use calculator::calculator::Calculator;
 use calculator::register::RegisterNumber;
 use cube::notation::CubeNotation;
 use cube::refusal::Refusal;
+use std::alloc::Global;
 use std::process::Abort;
 use std::test::Fail;
 
@@ -107,33 +108,32 @@ fn check_written<C: CubeNotation>(
     }
 }
 
+// A calculator whose register 3 holds one cube.
+fn calculator_of_a_cube<C: CubeNotation>(heap: Global) -> Result<Calculator, Fail> {
+    let mut tables = Tables::new(heap, C::blank(), 128, 256)?;
+    tables
+        .read(3, 3, b"3\n1\n0")
+        .map_err(|_| Fail::new("the read was refused"))
+}
+
 #[test]
 fn any_word_is_a_cube(rt: HostRuntime) -> Result<(), Fail> {
-    let mut table = [PositionalCube::blank(); 128];
-    let mut working = [PositionalCube::blank(); 256];
-    let Ok(mut calculator) = read::<PositionalCube>(3, 3, b"3\n1\n0", &mut table, &mut working)
-    else {
-        return Err(Fail::new("the read was refused"));
-    };
+    let mut calculator = calculator_of_a_cube::<PositionalCube>(rt.alloc())?;
     for &(word, written) in &WORDS {
         let mut table = [PositionalCube::blank(); 128];
-        table[12] = PositionalCube::from_word(word);
-        check_written::<PositionalCube>(&rt, &mut calculator, &table, written, written);
+        table[12] = PositionalCube::from(word);
+        check_written(&rt, &mut calculator, &table, written, written);
     }
     Ok(())
 }
 
 #[test]
 fn any_pair_is_a_cube(rt: HostRuntime) -> Result<(), Fail> {
-    let mut table = [MinMaxCube::blank(); 128];
-    let mut working = [MinMaxCube::blank(); 256];
-    let Ok(mut calculator) = read::<MinMaxCube>(3, 3, b"3\n1\n0", &mut table, &mut working) else {
-        return Err(Fail::new("the read was refused"));
-    };
+    let mut calculator = calculator_of_a_cube::<MinMaxCube>(rt.alloc())?;
     for &(min, max, written) in &PAIRS {
         let mut table = [MinMaxCube::blank(); 128];
         table[12] = MinMaxCube::from_bounds(min, max);
-        check_written::<MinMaxCube>(&rt, &mut calculator, &table, written, written);
+        check_written(&rt, &mut calculator, &table, written, written);
     }
     Ok(())
 }
@@ -141,44 +141,42 @@ fn any_pair_is_a_cube(rt: HostRuntime) -> Result<(), Fail> {
 // No read makes this word.
 const MARK: u64 = u64::MAX;
 
-// The first place without the mark, and how many places are without it.
+// The first place without the mark, 0 where there is none, and how many places are without it.
 fn unmarked(table: &[PositionalCube]) -> (usize, usize) {
-    let mut first = 0;
-    let mut count = 0usize;
-    for (place, cube) in table.iter().enumerate() {
-        if cube.word() != MARK {
-            if count == 0 {
-                first = place;
-            }
-            count = count.saturating_add(1);
-        }
-    }
-    (first, count)
+    let first = table.iter().position(|cube| u64::from(*cube) != MARK);
+    let count = table
+        .iter()
+        .filter(|cube| u64::from(**cube) != MARK)
+        .count();
+    (first.unwrap_or(0), count)
 }
 
 // Reads one text and then another into register 3.
 fn read_both(
     before: &str,
     text: &str,
-    table: &mut [PositionalCube],
-    working: &mut [PositionalCube],
+    tables: &mut Tables<PositionalCube>,
 ) -> Result<Calculator, Refusal> {
-    let k = RegisterNumber::new(3)?;
-    let mut calculator = read::<PositionalCube>(3, 3, before.as_bytes(), table, working)?;
-    let _ = calculator.read::<PositionalCube>(k, text.as_bytes(), table, working);
+    let mut calculator = tables.read(3, 3, before.as_bytes())?;
+    let k = RegisterNumber::try_from(3)?;
+    let _ = calculator.read(
+        k,
+        text.as_bytes(),
+        &mut tables.registers,
+        &mut tables.working,
+    );
     Ok(calculator)
 }
 
 #[test]
 fn reads_change_their_own_places_alone(rt: HostRuntime) -> Result<(), Fail> {
     for &(before, text, first, count, after) in &READS {
-        let mut table = [PositionalCube::from_word(MARK); 128];
-        let mut working = [PositionalCube::from_word(MARK); 256];
-        let Ok(mut calculator) = read_both(before, text, &mut table, &mut working) else {
+        let mut tables = Tables::new(rt.alloc(), PositionalCube::from(MARK), 128, 256)?;
+        let Ok(mut calculator) = read_both(before, text, &mut tables) else {
             return Err(Fail::new("the read was refused"));
         };
-        assert_eq!(rt; unmarked(&table), (first, count), "{}", text);
-        check_written::<PositionalCube>(&rt, &mut calculator, &table, after, text);
+        assert_eq!(rt; unmarked(&tables.registers), (first, count), "{}", text);
+        check_written(&rt, &mut calculator, &tables.registers, after, text);
     }
     Ok(())
 }

@@ -1,6 +1,6 @@
 // Numbers at the edges of their ranges.
+use crate::calls::{expected, told};
 use calculator::register::RegisterNumber;
-use cube::refusal::Refusal;
 use cube::shape::Shape;
 use cube::variable::VariableNumber;
 
@@ -46,45 +46,38 @@ static SHAPES: [(i32, i32, u8); 14] = [
     (1, i32::MAX, 3),
 ];
 
-// The number that is kept, and the refusal.
-fn variable(number: i32) -> (i32, u8, usize) {
-    match VariableNumber::new(number) {
-        Ok(v) => (v.number() as i32, 0, 0),
-        Err(refusal) => (number, refusal.number(), refusal.offset()),
-    }
+fn variable(number: i32) -> Result<i32, (u8, usize)> {
+    told(VariableNumber::try_from(number)).map(|v| v.number() as i32)
 }
 
-fn register(number: i32) -> (i32, u8, usize) {
-    match RegisterNumber::new(number) {
-        Ok(k) => (k.number() as i32, 0, 0),
-        Err(refusal) => (number, refusal.number(), refusal.offset()),
-    }
+fn register(number: i32) -> Result<i32, (u8, usize)> {
+    told(RegisterNumber::try_from(number)).map(|k| k.number() as i32)
 }
 
-fn shape(variables: i32, places: i32) -> (i32, i32, u8, usize) {
-    match Shape::new(variables, places) {
-        Ok(s) => (s.variables() as i32, s.places() as i32, 0, 0),
-        Err(refusal) => (variables, places, refusal.number(), refusal.offset()),
-    }
+fn shape(variables: i32, places: i32) -> Result<(i32, i32), (u8, usize)> {
+    told(Shape::new(variables, places)).map(|s| (s.variables() as i32, s.places() as i32))
 }
 
 #[test]
 fn variables_count_from_1_to_20(rt: HostRuntime) {
     for &(number, refusal) in &VARIABLES {
-        assert_eq!(rt; variable(number), (number, refusal, 0));
+        assert_eq!(rt; variable(number), expected(number, refusal, 0));
     }
 }
 
 #[test]
 fn registers_count_from_0_to_31(rt: HostRuntime) {
     for &(number, refusal) in &REGISTERS {
-        assert_eq!(rt; register(number), (number, refusal, 0));
+        assert_eq!(rt; register(number), expected(number, refusal, 0));
     }
 }
 
 #[test]
 fn shapes_have_edges(rt: HostRuntime) {
     for &(variables, places, refusal) in &SHAPES {
-        assert_eq!(rt; shape(variables, places), (variables, places, refusal, 0));
+        assert_eq!(rt;
+            shape(variables, places),
+            expected((variables, places), refusal, 0)
+        );
     }
 }

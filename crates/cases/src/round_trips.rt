@@ -1,9 +1,10 @@
 // Sheets that are read and written again.
-use crate::calls::{read, write};
+use crate::calls::{Tables, write};
 use crate::notations::{MinMaxCube, PositionalCube};
 use cube::notation::CubeNotation;
-use cube::refusal::Refusal;
+use std::alloc::Global;
 use std::process::Abort;
+use std::test::Fail;
 
 // Variables, a register, a sheet that is read into it, and the sheet that is written of it.
 static SHEETS: [(i32, i32, &str, &str); 10] = [
@@ -34,77 +35,57 @@ const OLD: u8 = 7;
 
 const MOST: usize = 160;
 
-fn copy<C: CubeNotation>(
-    n: i32,
-    k: i32,
-    sheet: &str,
-    table: &mut [C],
-    working: &mut [C],
-    out: &mut [u8],
-) -> Result<usize, Refusal> {
-    let mut calculator = read(n, k, sheet.as_bytes(), table, working)?;
-    write(&mut calculator, k, table, out)
-}
-
-// The length of what is written and 0, or 0 and the refusal's number.
+// The length of what is written of a register once it has read a sheet, or the refusal's number.
 fn copied<C: CubeNotation>(
+    tables: &mut Tables<C>,
     n: i32,
     k: i32,
     sheet: &str,
-    table: &mut [C],
-    working: &mut [C],
     out: &mut [u8],
-) -> (usize, u8) {
-    match copy(n, k, sheet, table, working, out) {
-        Ok(length) => (length, 0),
-        Err(refusal) => (0, refusal.number()),
-    }
+) -> Result<usize, u8> {
+    let mut calculator = tables.read(n, k, sheet.as_bytes()).map_err(|f| f.number())?;
+    write(&mut calculator, k, &tables.registers, out).map_err(|f| f.number())
 }
 
 // With `room` bytes: the sheet in front of what they held, or 8 where they are too few, and then they keep it.
 fn check_room<C: CubeNotation>(
     rt: &impl Abort,
-    n: i32,
-    k: i32,
-    sheet: &str,
-    written: &str,
+    tables: &mut Tables<C>,
+    row: &(i32, i32, &str, &str),
     room: usize,
-    table: &mut [C],
-    working: &mut [C],
 ) {
+    let &(n, k, sheet, written) = row;
     let mut out = [OLD; MOST];
     let mut want = [OLD; MOST];
-    let mut answer = (0, 8);
+    let mut answer = Err(8);
     assert!(rt; room <= MOST);
     if written.len() <= room {
-        answer = (written.len(), 0);
+        answer = Ok(written.len());
         want[0..written.len()].copy_from_slice(written.as_bytes());
     }
-    let seen = copied(n, k, sheet, table, working, &mut out[0..room]);
+    let seen = copied(tables, n, k, sheet, &mut out[0..room]);
     assert_eq!(rt; seen, answer, "{}", sheet);
     assert_eq!(rt; out, want, "{}", sheet);
 }
 
 // One byte too few, just enough, and more.
-fn check_sheets<C: CubeNotation>(rt: &impl Abort, table: &mut [C], working: &mut [C]) {
-    for &(n, k, sheet, written) in &SHEETS {
-        let few = written.len().saturating_sub(1);
-        check_room(rt, n, k, sheet, written, few, table, working);
-        check_room(rt, n, k, sheet, written, written.len(), table, working);
-        check_room(rt, n, k, sheet, written, MOST, table, working);
+fn check_sheets<C: CubeNotation>(rt: &impl Abort, heap: Global) -> Result<(), Fail> {
+    let mut tables = Tables::new(heap, C::blank(), 128, 256)?;
+    for row in &SHEETS {
+        let length = row.3.len();
+        for room in [length.saturating_sub(1), length, MOST] {
+            check_room(rt, &mut tables, row, room);
+        }
     }
+    Ok(())
 }
 
 #[test]
-fn positional_sheets_come_back(rt: HostRuntime) {
-    let mut table = [PositionalCube::blank(); 128];
-    let mut working = [PositionalCube::blank(); 256];
-    check_sheets::<PositionalCube>(&rt, &mut table, &mut working);
+fn positional_sheets_come_back(rt: HostRuntime) -> Result<(), Fail> {
+    check_sheets::<PositionalCube>(&rt, rt.alloc())
 }
 
 #[test]
-fn min_max_sheets_come_back(rt: HostRuntime) {
-    let mut table = [MinMaxCube::blank(); 128];
-    let mut working = [MinMaxCube::blank(); 256];
-    check_sheets::<MinMaxCube>(&rt, &mut table, &mut working);
+fn min_max_sheets_come_back(rt: HostRuntime) -> Result<(), Fail> {
+    check_sheets::<MinMaxCube>(&rt, rt.alloc())
 }

@@ -1,8 +1,8 @@
 // Texts that a read takes or refuses.
-use crate::calls::{check_said, padded, read};
+use crate::calls::{Tables, expected, padded, told};
 use crate::notations::{MinMaxCube, PositionalCube};
 use cube::notation::CubeNotation;
-use std::alloc::{AllocError, Global};
+use std::alloc::Global;
 use std::process::Abort;
 use std::test::Fail;
 
@@ -121,68 +121,48 @@ static LENGTHS: [(usize, usize, &str, usize, u8, usize); 11] = [
     (0, 0, "3\n0\n", 0, 4, 0),
 ];
 
-// What is said of a text that is read into register 2: 0 and 0, or the refusal's number and offset.
-fn verdict<C: CubeNotation>(text: &[u8], table: &mut [C], working: &mut [C]) -> (u8, usize) {
-    match read(3, 2, text, table, working) {
-        Ok(_) => (0, 0),
-        Err(refusal) => (refusal.number(), refusal.offset()),
-    }
+// Checks what is said of a text that is read into register 2; a failure names the row.
+fn check_text<C: CubeNotation>(
+    rt: &impl Abort,
+    tables: &mut Tables<C>,
+    text: &[u8],
+    wanted: Result<(), (u8, usize)>,
+    row: &str,
+) {
+    let said = told(tables.read(3, 2, text)).map(|_| ());
+    assert_eq!(rt; said, wanted, "{}", row);
 }
 
-fn check_sheets<C: CubeNotation>(rt: &impl Abort, table: &mut [C], working: &mut [C]) {
+fn check_sheets<C: CubeNotation>(rt: &impl Abort, heap: Global) -> Result<(), Fail> {
+    let mut tables = Tables::new(heap, C::blank(), 128, 256)?;
     for &(text, number, offset) in &SHEETS {
-        check_said(
-            rt,
-            verdict(text.as_bytes(), table, working),
-            number,
-            offset,
-            text,
-        );
+        let wanted = expected((), number, offset);
+        check_text(rt, &mut tables, text.as_bytes(), wanted, text);
     }
     for &(bytes, number, offset) in &BYTES {
-        check_said(
-            rt,
-            verdict(bytes, table, working),
-            number,
-            offset,
-            "no text",
-        );
+        let wanted = expected((), number, offset);
+        check_text(rt, &mut tables, bytes, wanted, "no text");
     }
+    Ok(())
 }
 
 #[test]
-fn positional_sheets_are_taken_or_refused(rt: HostRuntime) {
-    let mut table = [PositionalCube::blank(); 128];
-    let mut working = [PositionalCube::blank(); 256];
-    check_sheets::<PositionalCube>(&rt, &mut table, &mut working);
+fn positional_sheets_are_taken_or_refused(rt: HostRuntime) -> Result<(), Fail> {
+    check_sheets::<PositionalCube>(&rt, rt.alloc())
 }
 
 #[test]
-fn min_max_sheets_are_taken_or_refused(rt: HostRuntime) {
-    let mut table = [MinMaxCube::blank(); 128];
-    let mut working = [MinMaxCube::blank(); 256];
-    check_sheets::<MinMaxCube>(&rt, &mut table, &mut working);
-}
-
-// The same of a long text, with tables of any lengths.
-fn long_verdict(
-    heap: Global,
-    cubes: usize,
-    room: usize,
-    text: &[u8],
-    length: usize,
-) -> Result<(u8, usize), AllocError> {
-    let text = padded(heap, b' ', text, length)?;
-    let mut table = vec![in heap; PositionalCube::blank(); cubes]?;
-    let mut working = vec![in heap; PositionalCube::blank(); room]?;
-    Ok(verdict::<PositionalCube>(&text, &mut table, &mut working))
+fn min_max_sheets_are_taken_or_refused(rt: HostRuntime) -> Result<(), Fail> {
+    check_sheets::<MinMaxCube>(&rt, rt.alloc())
 }
 
 #[test]
 fn lengths_are_judged_before_the_text(rt: HostRuntime) -> Result<(), Fail> {
-    for &(cubes, room, text, length, number, offset) in &LENGTHS {
-        let said = long_verdict(rt.alloc(), cubes, room, text.as_bytes(), length)?;
-        check_said(&rt, said, number, offset, text);
+    let heap = rt.alloc();
+    for &(cubes, room, row, length, number, offset) in &LENGTHS {
+        let text = padded(heap, b' ', row.as_bytes(), length)?;
+        let mut tables = Tables::new(heap, PositionalCube::blank(), cubes, room)?;
+        check_text(&rt, &mut tables, &text, expected((), number, offset), row);
     }
     Ok(())
 }
