@@ -44,7 +44,7 @@ impl Record {
 }
 
 /// The library has no heap, so the cubes stand in a table that the host lends at each call, and a record has their number alone.
-#[derive(Drop)]
+#[derive(Clone, Copy)]
 pub struct Registers {
     records: [Record; 32],
 }
@@ -56,6 +56,8 @@ impl Model for Registers {
     ghost Value = { List Register };
 
     ghost view = { λ r. r.records };
+
+    ghost inverse = { λ records. record { records = records } };
 }
 
 impl Registers {
