@@ -4,9 +4,9 @@ use Rattle.std.proofs.lemmas.List.{take_more, map_push}
 use Rattle.cube.specs.declared.slot.Slot.{Slot}
 use Rattle.cube.specs.declared.slot.Slot.TheVariants.{No, Yes, Blank}
 use Rattle.cube.specs.Slots.{Cube, Cover, blank_above}
-use Rattle.text.specs.Output.{Puts}
+use Rattle.text.specs.Output.{Lays}
 use Rattle.text.specs.declared.output.Writer.{Writer}
-use Rattle.text.proofs.Overlays.{puts_then, puts_as}
+use Rattle.text.proofs.Overlays.{lays_then, lays_as}
 use Rattle.sheet.specs.Writing.{filled, write_literal, write_literals, write_cube, write_cubes, write_sheet}
 
 literals_push : (k : ℕ) (c : Cube) (v : Slot) → write_literals k (c ++ v ∷ []) ≡ write_literals k c ++ write_literal (k + length c) v
@@ -23,10 +23,10 @@ literals_more c i h =
     ap (λ j. write_literals 1 (take i c) ++ write_literal j (get_or c i Blank)) e ∙ sym (literals_push 1 (take i c) (get_or c i Blank)) ∙ ap (write_literals 1) (sym (take_more c i Blank h))
 
 -- the literal of the variable v, after those of the variables before it
-pub literal_next : {w m w' : Writer} (c : Cube) (v k : ℕ) (s : Slot) → 0 < v → v ≤ length c → k ≡ v → s ≡ get_or c (v - 1) Blank → Puts w (write_literals 1 (take (v - 1) c)) m → Puts m (write_literal v s) w' → Puts w (write_literals 1 (take k c)) w'
+pub literal_next : {w m w' : Writer} (c : Cube) (v k : ℕ) (s : Slot) → 0 < v → v ≤ length c → k ≡ v → s ≡ get_or c (v - 1) Blank → Lays w (write_literals 1 (take (v - 1) c)) m → Lays m (write_literal v s) w' → Lays w (write_literals 1 (take k c)) w'
 literal_next c v k s some fits e is a b =
     let i : v - 1 + 1 ≡ v = omega arith in
-    puts_as (ap (λ x. write_literals 1 (take (v - 1) c) ++ write_literal v x) is ∙ ap (λ j. write_literals 1 (take (v - 1) c) ++ write_literal j (get_or c (v - 1) Blank)) (sym i) ∙ literals_more c (v - 1) (omega arith) ∙ ap (λ j. write_literals 1 (take j c)) (i ∙ sym e)) (puts_then a b)
+    lays_as (ap (λ x. write_literals 1 (take (v - 1) c) ++ write_literal v x) is ∙ ap (λ j. write_literals 1 (take (v - 1) c) ++ write_literal j (get_or c (v - 1) Blank)) (sym i) ∙ literals_more c (v - 1) (omega arith) ∙ ap (λ j. write_literals 1 (take j c)) (i ∙ sym e)) (lays_then a b)
 
 filled_push : (c : Cube) (v : Slot) → filled (c ++ v ∷ []) ≡ filled c + filled (v ∷ [])
 filled_push [] No = refl
@@ -84,8 +84,8 @@ cube_above n c =
     ∙ ap (λ z. decimal (filled (blank_above n c)) ++ (z ++ 10 ∷ [])) (sym (literals_above n 1 c))
 
 -- the line of a cube, with as many literals as there are
-pub cube_puts : {w a b w' : Writer} (n k : ℕ) (c : Cube) → Puts w (decimal k) a → Puts a (write_literals 1 (take n c)) b → Puts b (10 ∷ []) w' → k ≡ filled (take n c) → Puts w (write_cube (blank_above n c)) w'
-cube_puts n k c x y z e = puts_as (ap (λ i. decimal i ++ (write_literals 1 (take n c) ++ 10 ∷ [])) e ∙ cube_above n c) (puts_then x (puts_then y z))
+pub cube_lays : {w a b w' : Writer} (n k : ℕ) (c : Cube) → Lays w (decimal k) a → Lays a (write_literals 1 (take n c)) b → Lays b (10 ∷ []) w' → k ≡ filled (take n c) → Lays w (write_cube (blank_above n c)) w'
+cube_lays n k c x y z e = lays_as (ap (λ i. decimal i ++ (write_literals 1 (take n c) ++ 10 ∷ [])) e ∙ cube_above n c) (lays_then x (lays_then y z))
 
 cubes_push : (cs : Cover) (c : Cube) → write_cubes (cs ++ c ∷ []) ≡ write_cubes cs ++ write_cube c
 cubes_push [] c = append-nil (write_cube c)

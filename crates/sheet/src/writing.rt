@@ -2,7 +2,7 @@
 // `Display` does not serve: what std's formatting promises of a failed write is not enough to say when a sheet is refused.
 ghost use Rattle.std.specs.Prelude.{◌≡◌, map, length, take};
 ghost use Rattle.cube.specs.Slots.{blank_above};
-ghost use Rattle.text.specs.Output.{Puts, Laid};
+ghost use Rattle.text.specs.Output.{Lays, Laid};
 ghost use Rattle.sheet.specs.Writing.{filled, write_literal, write_literals, write_cube, write_cubes, write_sheet, Writes, Exact};
 ghost use Rattle.sheet.specs.Trip.{Wrote, Returns};
 
@@ -15,7 +15,7 @@ use cube::variable::VariableNumber;
 use text::output::Writer;
 
 fn put_literal(variable: u8, slot: Slot, writer: &mut Writer)
-    ensures { Puts writer.old (write_literal variable slot) writer.new }
+    ensures { Lays writer.old (write_literal variable slot) writer.new }
 {
     match slot {
         Slot::No => {
@@ -47,7 +47,7 @@ fn count_literals<C: CubeNotation>(shape: Shape, cube: C) -> usize
 
 // The literals of the shape's variables.
 fn put_literals<C: CubeNotation>(shape: Shape, cube: C, writer: &mut Writer)
-    ensures { Puts writer.old (write_literals 1 (take shape.variables.value (C.slots cube))) writer.new }
+    ensures { Lays writer.old (write_literals 1 (take shape.variables.value (C.slots cube))) writer.new }
 {
     for variable in 1..=shape.variables() {
         let slot = cube.slot(VariableNumber::nearest(u32::from(variable)));
@@ -57,7 +57,7 @@ fn put_literals<C: CubeNotation>(shape: Shape, cube: C, writer: &mut Writer)
 
 // The line of a cube, with the slots above the shape's variables taken as Blank.
 fn put_cube<C: CubeNotation>(shape: Shape, cube: C, writer: &mut Writer)
-    ensures { Puts writer.old (write_cube (blank_above shape.variables.value (C.slots cube))) writer.new }
+    ensures { Lays writer.old (write_cube (blank_above shape.variables.value (C.slots cube))) writer.new }
 {
     writer.put_number(count_literals(shape, cube));
     put_literals(shape, cube, writer);
@@ -65,7 +65,7 @@ fn put_cube<C: CubeNotation>(shape: Shape, cube: C, writer: &mut Writer)
 }
 
 fn put_cubes<C: CubeNotation>(shape: Shape, cubes: &[C], writer: &mut Writer)
-    ensures { Puts writer.old (write_cubes (map (blank_above shape.variables.value) (map C.slots cubes.now))) writer.new }
+    ensures { Lays writer.old (write_cubes (map (blank_above shape.variables.value) (map C.slots cubes.now))) writer.new }
 {
     for cube in cubes {
         put_cube(shape, *cube, writer);

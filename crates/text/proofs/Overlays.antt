@@ -2,7 +2,7 @@
 use Rattle.std.proofs.Common.{◌≡◌, ℕ, suc, ◌+◌, ◌-◌, ◌^◌, ◌<◌, ◌≤◌, min, List, [], ◌∷◌, ◌++◌, length, drop, set, sym, refl, ap, ◌∙◌, subst, ⊎_elim, add-zero, arith, length-append}
 use Rattle.std.proofs.lemmas.Bool.{cases_lt}
 use Rattle.std.proofs.lemmas.List.{set_past}
-use Rattle.text.specs.Output.{overlay, Laid, Puts}
+use Rattle.text.specs.Output.{overlay, Laid, Lays}
 use Rattle.text.specs.declared.output.Writer.{Writer}
 
 pub overlay_append : (out : List ℕ) (at : ℕ) (xs ys : List ℕ) → overlay out at (xs ++ ys) ≡ overlay (overlay out at xs) (at + length xs) ys
@@ -39,8 +39,8 @@ laid_front {out} {text} {out'} {r} l h few =
     let e : r ≡ length text = omega (arith, l.place) in
     (e, l.over ∙ overlay_fits out text h ∙ ap (λ k. text ++ drop k out) (sym e))
 
-pub puts_then : {w m w' : Writer} {xs ys : List ℕ} → Puts w xs m → Puts m ys w' → Puts w (xs ++ ys) w'
-puts_then {w} {m} {w'} {xs} {ys} a b =
+pub lays_then : {w m w' : Writer} {xs ys : List ℕ} → Lays w xs m → Lays m ys w' → Lays w (xs ++ ys) w'
+lays_then {w} {m} {w'} {xs} {ys} a b =
     record {
       same_reference = b.same_reference ∙ a.same_reference;
       laid = record {
@@ -49,5 +49,5 @@ puts_then {w} {m} {w'} {xs} {ys} a b =
       };
     }
 
-pub puts_as : {w w' : Writer} {xs ys : List ℕ} → xs ≡ ys → Puts w xs w' → Puts w ys w'
-puts_as {w} {w'} e a = subst (λ z. Puts w z w') e a
+pub lays_as : {w w' : Writer} {xs ys : List ℕ} → xs ≡ ys → Lays w xs w' → Lays w ys w'
+lays_as {w} {w'} e a = subst (λ z. Lays w z w') e a

@@ -13,6 +13,6 @@ pub record Laid (out : List ℕ) (at : ℕ) (text : List ℕ) (r : ℕ) (out' : 
   pub over : out' ≡ overlay out at text
 
 -- the text was written, over the same lent bytes
-pub record Puts (old : Writer) (text : List ℕ) (new : Writer) : Type 0 where
+pub record Lays (old : Writer) (text : List ℕ) (new : Writer) : Type 0 where
   pub same_reference : new.out.ghost_name ≡ old.out.ghost_name
   pub laid : Laid old.out.now old.end text new.end new.out.now

@@ -13,7 +13,7 @@ pub struct Writer<'a> {
 }
 
 impl<'a> Writer<'a> {
-    ghost use Rattle.text.specs.Output.{Puts};
+    ghost use Rattle.text.specs.Output.{Lays};
 
     pub fn new(out: &'a mut [u8]) -> Writer<'a>
         ensures same_reference { result.out.ghost_name ≡ out.entry.ghost_name }
@@ -23,7 +23,7 @@ impl<'a> Writer<'a> {
     }
 
     pub fn put(&mut self, b: u8)
-        ensures { Puts self.old (b ∷ []) self.new }
+        ensures { Lays self.old (b ∷ []) self.new }
     {
         let Writer { out, end } = self;
         if *end < out.len() {
@@ -33,13 +33,13 @@ impl<'a> Writer<'a> {
     }
 
     pub fn put_number<I: Integer>(&mut self, k: I)
-        ensures { Puts self.old (I.text k) self.new }
+        ensures { Lays self.old (I.text k) self.new }
     {
         self.put_all(Buffer::new().format(k).as_bytes());
     }
 
     fn put_all(&mut self, text: &[u8])
-        ensures { Puts self.old text.now self.new }
+        ensures { Lays self.old text.now self.new }
     {
         for b in text {
             self.put(*b);

@@ -1,5 +1,5 @@
-use Rattle.sheet.proofs.Lines.{cube_puts}
+use Rattle.sheet.proofs.Lines.{cube_lays}
 use Rattle.sheet.proofs.writing.put_cube.Goals as goal
 
 pub returns : goal.returns
-returns g c = search cube_puts
+returns g c = search cube_lays

@@ -1,13 +1,13 @@
 use Rattle.std.proofs.Common.{◌≡◌, ◌+◌, ◌-◌, ◌≤◌, length, get_or, take, ap, ◌∙◌, arith}
 use Rattle.cube.specs.declared.slot.Slot.TheVariants.{Blank}
-use Rattle.text.specs.Output.{Puts}
+use Rattle.text.specs.Output.{Lays}
 use Rattle.sheet.specs.Writing.{write_literals}
 use Rattle.sheet.proofs.Lines.{literal_next}
 use Rattle.sheet.proofs.writing.put_literals.Given.{Over}
 use Rattle.sheet.proofs.writing.put_literals.Goals as goal
 use Rattle.sheet.proofs.writing.put_literals.Goals.{After-put_literal}
 
-more : (g : Over) (c : After-put_literal g) (k : _) → k ≡ c.loop-variable.variable → Puts c.args.writer.now (write_literals 1 (take k (g.C.CubeNotation.slots c.args.cube))) c.put_literal.new.writer
+more : (g : Over) (c : After-put_literal g) (k : _) → k ≡ c.loop-variable.variable → Lays c.args.writer.now (write_literals 1 (take k (g.C.CubeNotation.slots c.args.cube))) c.put_literal.new.writer
 more g c k e =
     let ss = g.C.CubeNotation.slots c.args.cube in
     let v = c.loop-variable.variable in
