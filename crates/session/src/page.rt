@@ -5,6 +5,7 @@ ghost use Rattle.session.specs.Page.{SheetsFit, ReportsFit};
 pub const PAGE_BYTES: usize = 9612;
 
 /// With a page of that size no line is refused with 8.
+#[tactic(auto, using(crate::proofs::Pages::sheets_fit, crate::proofs::Pages::reports_fit))]
 pub fn page_is_enough()
     ensures sheets { SheetsFit }
     ensures reports { ReportsFit }
