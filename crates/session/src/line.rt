@@ -1,5 +1,6 @@
 // One command line, run against a calculator.
-ghost use Rattle.std.specs.Prelude.{◌≡◌, map, length, IfOk};
+ghost use Rattle.std.specs.Prelude.{◌≡◌, ℕ, ◌≤◌, List, [], ◌∷◌, ◌++◌, map, length, IfOk, OnOk};
+ghost use Rattle.session.specs.Run.{Setting, printed};
 ghost use Rattle.life.specs.Call.{event};
 ghost use Rattle.life.specs.Call.Call.{write as writing};
 ghost use Rattle.life.specs.View.{Stepped};
@@ -11,7 +12,7 @@ use crate::failure::Failure;
 use calculator::calculator::Calculator;
 use calculator::register::RegisterNumber;
 use command::files::Files;
-use command::lines::CommandLine;
+use command::lines::{CommandLine, Lines};
 use command::output::put_text;
 use command::parse::{Command, parse_later};
 use command::report::{Layer, RefusedLine};
@@ -49,6 +50,45 @@ pub fn refuse(heap: Global, refused: RefusedLine, out: &mut [u8]) -> Result<usiz
     Ok(put_text(&text, out)?)
 }
 
+// Appends what a line printed, or 8 where its text was longer than the bytes given.
+fn append(
+    heap: Global,
+    output: &mut Vec<u8>,
+    line: usize,
+    put: Result<usize, Failure>,
+    page: &[u8],
+) -> Result<(), AllocError>
+    requires { IfOk put (λ size. size ≤ length page.now) }
+    ensures { (at : Setting) (t before : List ℕ) → at.room ≡ length before → Into t before put page.now → OnOk result (output.new.items ≡ output.old.items ++ printed at line t) }
+{
+    match put {
+        Ok(size) => output.extend_from_slice(&page[..size]),
+        Err(Failure::Refused(_)) => {
+            let too_long = RefusedLine {
+                line,
+                layer: Layer::Calculator,
+                refusal: Refusal::OutputTooShort,
+            };
+            output.extend_from_slice(&told(heap, too_long)?)
+        }
+        Err(Failure::OutOfMemory) => Err(AllocError),
+    }
+}
+
+// What is printed of a refused line alone.
+pub(crate) fn print_refused(
+    heap: Global,
+    refused: RefusedLine,
+    page: &mut [u8],
+) -> Result<Vec<u8>, AllocError>
+    ensures { (at : Setting) → at.room ≡ length page.old → IfOk result (λ output. output.items ≡ printed at refused.line (report_of refused)) }
+{
+    let mut output = Vec::new(heap);
+    let put = refuse(heap, refused, page);
+    append(heap, &mut output, refused.line, put, page)?;
+    Ok(output)
+}
+
 // Writes register k as a sheet; a desk has no way yet to lend one field as `&` and others as `&mut`.
 fn write<C: CubeNotation>(
     calculator: &mut Calculator,
@@ -83,6 +123,9 @@ impl<C: CubeNotation> Desk<'_, C> {
     ghost use Rattle.session.specs.Run.Status.{running};
     ghost use Rattle.session.specs.Seen.{LineDone, LineRan, text_of, printed_of, status_after};
     ghost use Rattle.session.specs.Desk.{LaterAsks, IsKept, setting_at, seen};
+    ghost use Rattle.session.specs.Midway.{Midway, Finished};
+    ghost use Rattle.command.specs.Cut.{lines_left};
+    ghost use Rattle.command.specs.Lines.{Line};
 
     // Reads the file of register k; one that is too large for the console is no sheet.
     fn read_line(&mut self, k: RegisterNumber, line: CommandLine) -> Result<(), RefusedLine>
@@ -151,5 +194,37 @@ impl<C: CubeNotation> Desk<'_, C> {
                 ControlFlow::Continue(refuse(self.heap, refused, self.page))
             }
         }
+    }
+
+    // Runs one line, appends what it printed, and tells whether the run goes on.
+    fn run_and_print(
+        &mut self,
+        line: CommandLine,
+        output: &mut Vec<u8>,
+    ) -> Result<ControlFlow<()>, AllocError>
+        ensures ran { (cells : Cover) (ls rest : List Line) → Midway (setting_at cells self.old) ls (line_of line.entry ∷ rest) (running (seen C.slots self.old)) output.old.items → IfOk result (λ flow. Midway (setting_at cells self.old) ls rest (status_after flow (seen C.slots self.new)) output.new.items) }
+        ensures kept { IsKept self.old self.new }
+    {
+        match self.run_line(line) {
+            ControlFlow::Continue(put) => {
+                append(self.heap, output, line.number, put, self.page)?;
+                Ok(ControlFlow::Continue(()))
+            }
+            ControlFlow::Break(()) => Ok(ControlFlow::Break(())),
+        }
+    }
+
+    // The lines after the first command.
+    pub(crate) fn run_lines(&mut self, lines: Lines) -> Result<Vec<u8>, AllocError>
+        ensures ran { (cells : Cover) (ls : List Line) → Midway (setting_at cells self.old) ls (lines_left lines.entry) (running (seen C.slots self.old)) [] → IfOk result (λ output. Finished (setting_at cells self.old) ls self.new.calculator.now (map C.slots self.new.table.now) output.items) }
+        ensures kept { IsKept self.old self.new }
+    {
+        let mut output = Vec::new(self.heap);
+        for line in lines {
+            if self.run_and_print(line, &mut output)?.is_break() {
+                break;
+            }
+        }
+        Ok(output)
     }
 }

@@ -9,7 +9,7 @@ ghost use Rattle.session.specs.Midway.{Midway, Begins, Opens, Finished};
 ghost use Rattle.session.specs.Ran.{TextRan, TextRefused};
 
 use crate::failure::Failure;
-use crate::line::{Desk, refuse, refused_at, told};
+use crate::line::{Desk, print_refused, refused_at, told};
 use calculator::calculator::Calculator;
 use command::files::Files;
 use command::lines::{CommandLine, Lines};
@@ -62,83 +62,6 @@ fn open(lines: &mut Lines) -> Result<Option<Calculator>, RefusedLine>
     Ok(None)
 }
 
-// Appends what a line printed, or 8 where its text was longer than the bytes given.
-fn append(
-    heap: Global,
-    output: &mut Vec<u8>,
-    line: usize,
-    put: Result<usize, Failure>,
-    page: &[u8],
-) -> Result<(), AllocError>
-    requires { IfOk put (λ size. size ≤ length page.now) }
-    ensures { (at : Setting) (t before : List ℕ) → at.room ≡ length before → Into t before put page.now → OnOk result (output.new.items ≡ output.old.items ++ printed at line t) }
-{
-    match put {
-        Ok(size) => output.extend_from_slice(&page[..size]),
-        Err(Failure::Refused(_)) => {
-            let too_long = RefusedLine {
-                line,
-                layer: Layer::Calculator,
-                refusal: Refusal::OutputTooShort,
-            };
-            output.extend_from_slice(&told(heap, too_long)?)
-        }
-        Err(Failure::OutOfMemory) => Err(AllocError),
-    }
-}
-
-// A refused first command ends the run.
-fn end_refused(heap: Global, refused: RefusedLine, page: &mut [u8]) -> Result<Run, AllocError>
-    ensures { (at : Setting) → at.room ≡ length page.old → IfOk result (λ run. (run.output.items ≡ printed at refused.line (report_of refused)) × (run.calculator ≡ None)) }
-{
-    let mut output = Vec::new(heap);
-    let put = refuse(heap, refused, page);
-    append(heap, &mut output, refused.line, put, page)?;
-    Ok(Run {
-        output,
-        calculator: None,
-    })
-}
-
-impl<C: CubeNotation> Desk<'_, C> {
-    ghost use Rattle.cube.specs.Slots.{Cover};
-    ghost use Rattle.session.specs.Run.Status.{running};
-    ghost use Rattle.session.specs.Desk.{IsKept, setting_at, seen};
-    ghost use Rattle.session.specs.Seen.{status_after};
-
-    // Runs one line, appends what it printed, and tells whether the run goes on.
-    fn run_and_print(
-        &mut self,
-        line: CommandLine,
-        output: &mut Vec<u8>,
-    ) -> Result<ControlFlow<()>, AllocError>
-        ensures ran { (cells : Cover) (ls rest : List Line) → Midway (setting_at cells self.old) ls (line_of line.entry ∷ rest) (running (seen C.slots self.old)) output.old.items → IfOk result (λ flow. Midway (setting_at cells self.old) ls rest (status_after flow (seen C.slots self.new)) output.new.items) }
-        ensures kept { IsKept self.old self.new }
-    {
-        match self.run_line(line) {
-            ControlFlow::Continue(put) => {
-                append(self.heap, output, line.number, put, self.page)?;
-                Ok(ControlFlow::Continue(()))
-            }
-            ControlFlow::Break(()) => Ok(ControlFlow::Break(())),
-        }
-    }
-
-    // The lines after the first command.
-    fn run_lines(&mut self, lines: Lines) -> Result<Vec<u8>, AllocError>
-        ensures ran { (cells : Cover) (ls : List Line) → Midway (setting_at cells self.old) ls (lines_left lines.entry) (running (seen C.slots self.old)) [] → IfOk result (λ output. Finished (setting_at cells self.old) ls self.new.calculator.now (map C.slots self.new.table.now) output.items) }
-        ensures kept { IsKept self.old self.new }
-    {
-        let mut output = Vec::new(self.heap);
-        for line in lines {
-            if self.run_and_print(line, &mut output)?.is_break() {
-                break;
-            }
-        }
-        Ok(output)
-    }
-}
-
 /// Runs a command text; each line's text is put into `page` first.
 pub fn run_text<C: CubeNotation>(
     heap: Global,
@@ -183,6 +106,9 @@ pub fn run_text<C: CubeNotation>(
             output: Vec::new(heap),
             calculator: None,
         }),
-        Err(refused) => end_refused(heap, refused, page),
+        Err(refused) => Ok(Run {
+            output: print_refused(heap, refused, page)?,
+            calculator: None,
+        }),
     }
 }

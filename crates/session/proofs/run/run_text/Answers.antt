@@ -1,7 +1,5 @@
-use Rattle.std.proofs.Common.{ap, Some, map, length, None, sym, refl, subst, rules}
-use Rattle.std.proofs.lemmas.Result.{IfOk-weaker}
-use Rattle.session.specs.Run.Status.{over}
-use Rattle.session.specs.Seen.{setting, Left}
+use Rattle.std.proofs.Common.{ap, Some, map, length, None, refl, rules}
+use Rattle.session.specs.Seen.{setting}
 use Rattle.session.proofs.Midway.{after_all, text_ran, finished_text}
 use Rattle.session.proofs.run.run_text.Goals as goal
 
@@ -19,9 +17,8 @@ returns-in-Ok-None-clause-short g c = λ h.
     let m = rw c.in-Ok-None.field-0-is at c.in-Ok-None.ensures in
     text_ran (record { output = c.new.result; calculator = None }) cells c.new-lines.ensures (m at) c.new.ensures.items refl
 
-pub returns-in-Err-clause-short : goal.returns-in-Err-clause-short
-returns-in-Err-clause-short g c = λ h.
+pub returns-in_ok-print_refused-in-Err-clause-short : goal.returns-in_ok-print_refused-in-Err-clause-short
+returns-in_ok-print_refused-in-Err-clause-short g c = λ h.
     let cells = map g.C.CubeNotation.slots c.args.table.now in
     let at = setting c.args.files.now cells (length c.args.working.now) (length c.args.page.now) in
-    let m = after_all _ (c.in-Err.ensures at) in
-    IfOk-weaker c.end_refused.result _ _ (λ run p. text_ran run cells c.new-lines.ensures m p.0 (subst (λ k. Left cells (over None) k cells) (sym p.1) refl)) (c.end_refused.ensures at refl)
+    text_ran _ cells c.new-lines.ensures (after_all _ (c.in-Err.ensures at)) (c.in_ok-print_refused-in-Err.ensures at refl) refl
