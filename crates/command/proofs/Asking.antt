@@ -14,6 +14,9 @@ use Rattle.command.specs.Asked.{admitted, asked_on, numbers_in, with_numbers}
 is_gap : (b : ℕ) → kind b ≡ Separator → gap b ≡ true
 is_gap b e = grind (arith, nat_tests)
 
+no_gap : (b : ℕ) → (kind b ≡ Separator → ⊥) → gap b ≡ false
+no_gap b e = grind (arith, nat_tests)
+
 module _ (first : Bool) (xs : List ℕ) (p : ℕ) where
   no_letter : length xs ≤ p → asked_on first p (drop p xs) ≡ Ok None
   no_letter h = at_drop_all (asked_on first p) xs p h
@@ -44,12 +47,25 @@ rest_start : (xs : List ℕ) (p : ℕ) → p < length xs → length xs - length 
 rest_start xs p h = omega (arith, length_rest xs p, length_rest (rest xs p) 1)
 
 -- a letter that may begin a command stands at p, the first place past the separators from `from` on, and its numbers after it
-pub begun : (first : Bool) (xs : List ℕ) (from p b : ℕ) → asked_on first from (drop from xs) ≡ asked_on first p (drop p xs) → (p < length xs → gap (get_or xs p 0) ≡ false) → 1 ≤ length (rest xs p) → b ≡ get_or (rest xs p) 0 0 → true ≡ admitted first b → asked_on first from (drop from xs) ≡ with_numbers b (numbers_in (tokens_from xs (length xs - length (rest (rest xs p) 1))))
+pub begun : (first : Bool) (xs : List ℕ) (from p b : ℕ) → asked_on first from (drop from xs) ≡ asked_on first p (drop p xs) → (p < length xs → kind (get_or xs p 0) ≡ Separator → ⊥) → 1 ≤ length (rest xs p) → b ≡ get_or (rest xs p) 0 0 → true ≡ admitted first b → asked_on first from (drop from xs) ≡ with_numbers b (numbers_in (tokens_from xs (length xs - length (rest (rest xs p) 1))))
 begun first xs from p b same stops some is may =
     let h : p < length xs = omega (arith, length_rest xs p) in
     same
     ∙ at_drop_more (asked_on first p) xs p 0 h
-    ∙ cond-false _ _ _ (stops h)
+    ∙ cond-false _ _ _ (no_gap (get_or xs p 0) (stops h))
     ∙ ap (λ l. cond (admitted first l) (with_numbers l (numbers_in (tokens_from xs (p + 1)))) (Err (fault 50 p))) (sym (is ∙ byte_at xs p h))
     ∙ cond-true _ _ _ (sym may)
     ∙ ap (λ n. with_numbers b (numbers_in (tokens_from xs n))) (sym (rest_start xs p h))
+
+-- a letter that may not begin a command stands at p
+pub refused : (first : Bool) (xs : List ℕ) (from p b : ℕ) → asked_on first from (drop from xs) ≡ asked_on first p (drop p xs) → (p < length xs → kind (get_or xs p 0) ≡ Separator → ⊥) → 1 ≤ length (rest xs p) → b ≡ get_or (rest xs p) 0 0 → false ≡ admitted first b → asked_on first from (drop from xs) ≡ Err (fault 50 p)
+refused first xs from p b same stops some is may =
+    let h : p < length xs = omega (arith, length_rest xs p) in
+    same
+    ∙ at_drop_more (asked_on first p) xs p 0 h
+    ∙ cond-false _ _ _ (no_gap (get_or xs p 0) (stops h))
+    ∙ cond-false _ _ _ (ap (admitted first) (sym (is ∙ byte_at xs p h)) ∙ sym may)
+
+-- nothing stands at p
+pub idle : (first : Bool) (xs : List ℕ) (from p : ℕ) → asked_on first from (drop from xs) ≡ asked_on first p (drop p xs) → length (rest xs p) ≤ 0 → asked_on first from (drop from xs) ≡ Ok None
+idle first xs from p same none = same ∙ no_letter first xs p (omega (arith, length_rest xs p))

@@ -9,8 +9,7 @@ use crate::lines::CommandLine;
 use arrayvec::ArrayVec;
 use calculator::register::RegisterNumber;
 use cube::refusal::Refusal;
-use text::bytes::Kind;
-use text::scan::first_from;
+use text::scan::past_separators;
 use text::tokens::{Token, Tokens};
 
 /// What a line after the first command asks of the console.
@@ -33,15 +32,6 @@ fn numbers_from(text: &[u8], start: usize) -> Result<ArrayVec<i32, 2>, Refusal>
         }
     }
     Ok(numbers)
-}
-
-// The first place from `from` on that holds no separator.
-fn past_separators(text: &[u8], from: usize) -> usize
-    ensures within { result ≤ length text.now }
-    ensures stops { result < length text.now → gap (slice_index text.now result) ≡ false }
-    ensures same { (first : Bool) → asked_on first from (drop from text.now) ≡ asked_on first result (drop result text.now) }
-{
-    first_from(text, from, |b| Kind::from(b) != Kind::Separator)
 }
 
 // What a line asks, by which letters may begin it, and what such a letter asks with the first two numbers after it.

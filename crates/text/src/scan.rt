@@ -1,5 +1,9 @@
 // Where a run of bytes ends.
-ghost use Rattle.std.specs.Prelude.{ℕ, ◌+◌, ◌<◌, ◌≤◌, min, length, true, false, slice_index};
+ghost use Rattle.std.specs.Prelude.{◌≡◌, ◌≢◌, ℕ, ◌+◌, ◌<◌, ◌≤◌, min, length, true, false, slice_index};
+ghost use Rattle.text.specs.Bytes.{kind};
+ghost use Rattle.text.specs.declared.bytes.Kind.TheVariants.{Separator};
+
+use crate::bytes::Kind;
 
 /// The first place from `from` on at whose byte `stops` says yes, or the end of the text.
 pub fn first_from<F: Fn(u8) -> bool>(text: &[u8], from: usize, stops: F) -> usize
@@ -12,4 +16,14 @@ pub fn first_from<F: Fn(u8) -> bool>(text: &[u8], from: usize, stops: F) -> usiz
     let start = from.min(text.len());
     let rest = &text[start..];
     start + rest.iter().position(|b| stops(*b)).unwrap_or(rest.len())
+}
+
+/// The first place from `from` on that holds no separator, or the end of the text.
+pub fn past_separators(text: &[u8], from: usize) -> usize
+    ensures after { min from (length text.now) ≤ result }
+    ensures within { result ≤ length text.now }
+    ensures stopped { result < length text.now → kind (slice_index text.now result) ≢ Separator }
+    ensures passed { (k : ℕ) → from + k < result → kind (slice_index text.now (from + k)) ≡ Separator }
+{
+    first_from(text, from, |b| Kind::from(b) != Kind::Separator)
 }

@@ -8,7 +8,7 @@ ghost use Rattle.text.specs.declared.bytes.Kind.TheVariants.{Separator, LineFeed
 
 use crate::bytes::Kind;
 use crate::numeral::Numeral;
-use crate::scan::first_from;
+use crate::scan::{first_from, past_separators};
 use cube::refusal::Refusal;
 
 const MOST_DIGITS: usize = 5;
@@ -18,17 +18,6 @@ const MOST_DIGITS: usize = 5;
 pub enum Token<'a> {
     Number { numeral: Numeral<'a>, at: usize },
     LineEnd { at: usize },
-}
-
-// The first place from `from` on that holds no separator.
-fn past_separators(text: &[u8], from: usize) -> usize
-    requires { from ≤ length text.now }
-    ensures after { from ≤ result }
-    ensures within { result ≤ length text.now }
-    ensures stops { result < length text.now → kind (slice_index text.now result) ≢ Separator }
-    ensures same { tokens_from text.now from ≡ tokens_from text.now result }
-{
-    first_from(text, from, |b| Kind::from(b) != Kind::Separator)
 }
 
 // The first place from `from` on that holds no digit.

@@ -1,7 +1,0 @@
-use Rattle.std.proofs.Common.{rules, arith}
-use Rattle.text.proofs.Streams.{separators_pass}
-use Rattle.text.proofs.tokens.past_separators.Goals as goal
-
-pub returns-clause-same : goal.returns-clause-same
-returns-clause-same c =
-    separators_pass c.args.text.now c.args.from c.first_from.result (omega arith) (omega arith) (λ k h. let passed = c.first_from.ensures.passed k h in search rules)
