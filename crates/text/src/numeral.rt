@@ -3,15 +3,17 @@ ghost use Rattle.std.specs.Prelude.{◌≡◌, ◌<◌, ◌≤◌, length};
 ghost use Rattle.text.specs.Numerals.{size_in, minus_in, signed};
 
 /// The bytes of a number: at most six, a minus among them or none.
-#[derive(Clone, Copy)]
+// No `PartialEq`: one number is written in several ways, as 7 and 007, and is compared by its `value`.
+#[derive(Clone, Copy, Debug)]
 pub struct Numeral<'a> {
     pub text: &'a [u8],
     ghost short: { length text.now ≤ 6 },
 }
 
 impl<'a> Numeral<'a> {
+    /// The number that the digits write, whatever its sign.
     // A loop: std's `parse` may fail where this may not, and in a `fold` the proof that the sum fits did not close.
-    fn size(self) -> u32
+    pub fn size(self) -> u32
         ensures value { result ≡ size_in self.entry.text.now }
         ensures bound { result < 1000000 }
     {
@@ -24,15 +26,18 @@ impl<'a> Numeral<'a> {
         size
     }
 
-    /// The number that is written; zero has no minus.
+    /// Whether the number is below zero; zero has no minus.
+    pub fn is_negative(self) -> bool
+        ensures { result ≡ minus_in self.entry.text.now }
+    {
+        self.text.starts_with(b"-") && self.size() > 0
+    }
+
+    /// The number that is written.
     pub fn value(self) -> i32
         ensures { result ≡ signed (minus_in self.entry.text.now) (size_in self.entry.text.now) }
     {
         let size = self.size() as i32;
-        if self.text.starts_with(b"-") {
-            -size
-        } else {
-            size
-        }
+        if self.is_negative() { -size } else { size }
     }
 }
