@@ -75,8 +75,12 @@ pub record Step (xs : List ℕ) (p : ℕ) (t : Tok) (q : ℕ) : Type 0 where
   pub within : q ≤ length xs
   pub same : tokens_from xs p ≡ tok t (tokens_from xs q)
 
+-- the first thing in xs from p on is the fault f
+abbrev pub Faulty : List ℕ → ℕ → Refusal → Type 0
+Faulty xs p f = tokens_from xs p ≡ bad (fault_of f).number (fault_of f).offset
+
 -- r is what comes first in xs from p on, and q is where it ends; a fault ends with the text
 abbrev pub Next : List ℕ → ℕ → Option (Result Token Refusal) → ℕ → Type 0
 Next xs p (Some (Ok t)) q = Step xs p (tok_of t) q
-Next xs p (Some (Err f)) q = (tokens_from xs p ≡ bad (fault_of f).number (fault_of f).offset) × (q ≡ length xs)
+Next xs p (Some (Err f)) q = Faulty xs p f × (q ≡ length xs)
 Next xs p None q = (tokens_from xs p ≡ end (length xs)) × (q ≡ length xs)

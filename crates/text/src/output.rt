@@ -4,6 +4,7 @@ ghost use Rattle.std.specs.Prelude.{◌≡◌, ◌^◌, ◌<◌, [], ◌∷◌, 
 use itoa::{Buffer, Integer};
 
 /// Bytes written one after another over lent bytes, as far as these go; `end` counts on past their end.
+// A slice with a count and no Vec: the project lends the bytes and has no heap here, and what does not fit is counted too.
 #[derive(Drop)]
 pub struct Writer<'a> {
     out: &'a mut [u8],

@@ -1,8 +1,7 @@
 // The tokens of a text, one after another, each a part of the text.
-ghost use Rattle.std.specs.Prelude.{◌≡◌, ◌+◌, ◌-◌, ◌<◌, ◌≤◌, min, length, drop, MatchResult, ◌≢◌, slice_index};
-ghost use Rattle.cube.specs.Refusals.{fault_of};
+ghost use Rattle.std.specs.Prelude.{◌≡◌, ℕ, ◌+◌, ◌-◌, ◌<◌, ◌≤◌, min, length, drop, MatchResult, ◌≢◌, slice_index};
 ghost use Rattle.text.specs.Bytes.{kind};
-ghost use Rattle.text.specs.Tokens.{stream, digits, span, tokens_from, bad, tok_of, Step};
+ghost use Rattle.text.specs.Tokens.{stream, digits, span, tok_of, Step, Faulty};
 ghost use Rattle.text.specs.Scanning.{Opens, Closes};
 ghost use Rattle.text.specs.declared.bytes.Kind.TheVariants.{Separator, LineFeed, Digit};
 
@@ -21,13 +20,12 @@ pub enum Token<'a> {
 }
 
 // The first place from `from` on that holds no digit.
-fn past_digits(text: &[u8], start: usize, first: usize, from: usize) -> usize
-    requires inside { from ≤ length text.now }
-    requires begun { start ≤ from }
+fn past_digits(text: &[u8], from: usize) -> usize
+    requires { from ≤ length text.now }
     ensures after { from ≤ result }
     ensures within { result ≤ length text.now }
     ensures stops { result < length text.now → kind (slice_index text.now result) ≢ Digit }
-    ensures same { stream (digits start first (span text.now start from)) from (drop from text.now) ≡ stream (digits start first (span text.now start result)) result (drop result text.now) }
+    ensures same { (start first : ℕ) → start ≤ from → stream (digits start first (span text.now start from)) from (drop from text.now) ≡ stream (digits start first (span text.now start result)) result (drop result text.now) }
 {
     first_from(text, from, |b| Kind::from(b) != Kind::Digit)
 }
@@ -38,7 +36,7 @@ fn first_digit(text: &[u8], start: usize) -> Result<usize, Refusal>
     requires inside { start < length text.now }
     requires word { kind (slice_index text.now start) ≢ Separator }
     requires line { kind (slice_index text.now start) ≢ LineFeed }
-    ensures { MatchResult result (λ first. Opens text.now start first) (λ f. tokens_from text.now start ≡ bad (fault_of f).number (fault_of f).offset) }
+    ensures { MatchResult result (λ first. Opens text.now start first) (λ f. Faulty text.now start f) }
 {
     match Kind::from(text[start]) {
         Kind::Digit => Ok(start),
@@ -58,9 +56,9 @@ fn first_digit(text: &[u8], start: usize) -> Result<usize, Refusal>
 #[tactic(auto, using(crate::proofs::Streams::stray_after, crate::proofs::Streams::sixth_digit, crate::proofs::Streams::closes))]
 fn number_end(text: &[u8], start: usize, first: usize) -> Result<usize, Refusal>
     requires { Opens text.now start first }
-    ensures { MatchResult result (λ end. Closes text.now start end) (λ f. tokens_from text.now start ≡ bad (fault_of f).number (fault_of f).offset) }
+    ensures { MatchResult result (λ end. Closes text.now start end) (λ f. Faulty text.now start f) }
 {
-    let end = past_digits(text, start, first, first + 1);
+    let end = past_digits(text, first + 1);
     match text.get(end).map(|b| Kind::from(*b)) {
         None | Some(Kind::Separator | Kind::LineFeed) => {}
         _ => return Err(Refusal::ByteNotAllowed { at: end }),
@@ -75,7 +73,7 @@ fn number_end(text: &[u8], start: usize, first: usize) -> Result<usize, Refusal>
 fn token_at(text: &[u8], start: usize) -> Result<(Token<'_>, usize), Refusal>
     requires inside { start < length text.now }
     requires word { kind (slice_index text.now start) ≢ Separator }
-    ensures { MatchResult result (λ p. Step text.now start (tok_of p.0) p.1) (λ f. tokens_from text.now start ≡ bad (fault_of f).number (fault_of f).offset) }
+    ensures { MatchResult result (λ p. Step text.now start (tok_of p.0) p.1) (λ f. Faulty text.now start f) }
 {
     if Kind::from(text[start]) == Kind::LineFeed {
         return Ok((Token::LineEnd { at: start }, start + 1));
