@@ -5,7 +5,7 @@ use Rattle.std.proofs.lemmas.Bool.Decides.{nat_tests}
 use Rattle.std.proofs.lemmas.List.{at_drop_more, at_drop_all, take_more, drop_more}
 use Rattle.text.specs.declared.bytes.Kind.TheVariants.{Separator, LineFeed, Minus, Digit, Other}
 use Rattle.text.specs.Bytes.{kind}
-use Rattle.text.specs.Tokens.{tok, bad, between, minus, digits, stream, closed, eol, span, tokens_from}
+use Rattle.text.specs.Tokens.{tok, end, bad, between, minus, digits, stream, closed, eol, span, tokens_from}
 use Rattle.text.specs.Scanning.{Opens, Closes}
 use Rattle.text.proofs.Runs.{same_up_to}
 
@@ -124,8 +124,12 @@ module _ (xs : List ℕ) (start first end : ℕ) (opens : Opens xs start first) 
         }
 
 module _ (xs : List ℕ) (p q : ℕ) (h : p ≤ q) (w : q ≤ length xs) where
-  pub separators_pass : ((k : ℕ) → p + k < q → kind (get_or xs (p + k) 0) ≡ Separator) → tokens_from xs p ≡ tokens_from xs q
-  separators_pass is = same_up_to (tokens_from xs) p q h (λ k l. separator_more xs (p + k) (omega arith) (is k l))
+  module _ (is : (k : ℕ) → p + k < q → kind (get_or xs (p + k) 0) ≡ Separator) where
+    pub separators_pass : tokens_from xs p ≡ tokens_from xs q
+    separators_pass = same_up_to (tokens_from xs) p q h (λ k l. separator_more xs (p + k) (omega arith) (is k l))
+
+    pub ended : q ≡ length xs → tokens_from xs p ≡ end (length xs)
+    ended e = separators_pass ∙ at_drop_all (stream between q) xs q (omega arith) ∙ ap end e
 
   pub digits_pass : (start first : ℕ) → start ≤ p → ((k : ℕ) → p + k < q → kind (get_or xs (p + k) 0) ≡ Digit)
       → stream (digits start first (span xs start p)) p (drop p xs) ≡ stream (digits start first (span xs start q)) q (drop q xs)

@@ -122,6 +122,7 @@ impl<'a> Iterator for Tokens<'a> {
 
     ghost remaining = { bytes_left };
 
+    #[tactic(auto, using(crate::proofs::Streams::ended))]
     fn next(&mut self) -> Option<Result<Token<'a>, Refusal>> {
         let text = self.text;
         let start = past_separators(text, self.place);

@@ -1,24 +1,14 @@
-use Rattle.std.proofs.Common.{◌≡◌, length, refl, ap, ◌∙◌, rules, arith}
-use Rattle.std.proofs.lemmas.List.{at_drop_all}
-use Rattle.text.specs.Tokens.{end, stream, between, tokens_from}
+use Rattle.std.proofs.Common.{◌≡◌, rules, arith}
+use Rattle.text.specs.Tokens.{tokens_from}
 use Rattle.text.proofs.Streams.{separators_pass}
 use Rattle.text.proofs.tokens.TokensIterator.next.Goals as goal
+use Rattle.text.proofs.tokens.TokensIterator.next.Goals.{After-past_separators-start}
 
-pub returns-then-start-text-clause-steps : goal.returns-then-start-text-clause-steps
-returns-then-start-text-clause-steps c =
-    let s = c.past_separators-start in
-    let same : tokens_from c.args.self.now.text.now c.args.self.now.place ≡ tokens_from c.args.self.now.text.now s.result = separators_pass _ _ _ (omega arith) s.ensures.within s.ensures.passed in
-    let e : s.result ≡ length c.args.self.now.text.now = omega arith in
-    (refl, (same ∙ at_drop_all (stream between s.result) c.args.self.now.text.now s.result (omega arith) ∙ ap end e, e))
+passed : (c : After-past_separators-start) → tokens_from c.args.self.now.text.now c.args.self.now.place ≡ tokens_from c.args.self.now.text.now c.past_separators-start.result
+passed c = let s = c.past_separators-start.ensures in separators_pass _ _ _ (omega arith) s.within s.passed
 
 pub returns-in-Ok-clause-steps : goal.returns-in-Ok-clause-steps
-returns-in-Ok-clause-steps c =
-    let s = c.past_separators-start in
-    let same : tokens_from c.args.self.now.text.now c.args.self.now.place ≡ tokens_from c.args.self.now.text.now s.result = separators_pass _ _ _ (omega arith) s.ensures.within s.ensures.passed in
-    search rules
+returns-in-Ok-clause-steps c = let same = passed (goal.at.returns-in-Ok-clause-steps c).After-past_separators-start in search rules
 
 pub returns-in-Err-clause-steps : goal.returns-in-Err-clause-steps
-returns-in-Err-clause-steps c =
-    let s = c.past_separators-start in
-    let same : tokens_from c.args.self.now.text.now c.args.self.now.place ≡ tokens_from c.args.self.now.text.now s.result = separators_pass _ _ _ (omega arith) s.ensures.within s.ensures.passed in
-    search rules
+returns-in-Err-clause-steps c = let same = passed (goal.at.returns-in-Err-clause-steps c).After-past_separators-start in search rules
