@@ -5,7 +5,7 @@ ghost use Rattle.command.specs.Files.{file_of, lent};
 use calculator::register::RegisterNumber;
 
 /// What the file of each register holds; none where there is no such file.
-// A Vec and no map: every register has a place, in the order of their numbers.
+// A Vec: every register has a place, and the host fills it file by file, as it reads; an array of what is not Copy would be filled at once.
 #[derive(Drop)]
 pub struct Files {
     pub sheets: Vec<Option<Vec<u8>>>,
