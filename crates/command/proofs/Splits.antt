@@ -1,8 +1,8 @@
 -- A text split at its line feeds, from a place on.
-use Rattle.std.proofs.Common.{◌≡◌, ℕ, ◌+◌, ◌<◌, ◌≤◌, List, [], ◌∷◌, ◌++◌, length, get_or, take, drop, sym, ap, ◌∙◌, arith, length-take}
+use Rattle.std.proofs.Common.{◌≡◌, ℕ, ◌+◌, ◌<◌, ◌≤◌, min, List, [], ◌∷◌, ◌++◌, length, get_or, take, drop, sym, ap, ◌∙◌, ⊎_elim, arith, length-take}
 use lib.Seq.{drop-append-le}
 use Rattle.std.proofs.lemmas.List.{at_drop_more, at_drop_all, take_more}
-use Rattle.std.proofs.lemmas.Bool.{ne_eqb, cond-false}
+use Rattle.std.proofs.lemmas.Bool.{cases_lt, ne_eqb, cond-false}
 use Rattle.text.specs.Words.{split, feed}
 use Rattle.text.proofs.Runs.{same_up_to}
 
@@ -17,6 +17,9 @@ module _ (xs : List ℕ) (p : ℕ) (h : p < length xs) where
       at_drop_more (split feed (drop from (take p xs))) xs p 0 h ∙ cond-false _ _ _ (ne_eqb _ _ ne) ∙ ap (λ w. split feed w (drop (p + 1) xs)) (sym grown)
 
 -- no line ends before p
-pub up_to_feed : (xs : List ℕ) (from p : ℕ) → from ≤ p → p ≤ length xs → ((k : ℕ) → from + k < p → get_or xs (from + k) 0 ≡ 10 → ⊥) → split feed [] (drop from xs) ≡ split feed (drop from (take p xs)) (drop p xs)
+pub up_to_feed : (xs : List ℕ) (from p : ℕ) → min from (length xs) ≤ p → p ≤ length xs → ((k : ℕ) → from + k < p → get_or xs (from + k) 0 ≡ 10 → ⊥) → split feed [] (drop from xs) ≡ split feed (drop from (take p xs)) (drop p xs)
 up_to_feed xs from p after within none =
-    sym (no_line xs from) ∙ same_up_to (λ q. split feed (drop from (take q xs)) (drop q xs)) from p after (λ k h. no_feed xs (from + k) (omega arith) from (omega arith) (none k h))
+    ⊎_elim
+    (λ lt. sym (no_line xs from) ∙ same_up_to (λ q. split feed (drop from (take q xs)) (drop q xs)) from p (omega arith) (λ k h. no_feed xs (from + k) (omega arith) from (omega arith) (none k h)))
+    (λ ge. at_drop_all (split feed []) xs from ge ∙ sym (at_drop_all (λ w. split feed w (drop p xs)) (take p xs) from (simp length-take (omega arith)) ∙ at_drop_all (split feed []) xs p (omega arith)))
+    (cases_lt from (length xs))

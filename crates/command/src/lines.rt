@@ -1,5 +1,5 @@
 // A command text as lines.
-ghost use Rattle.std.specs.Prelude.{◌≡◌, ◌+◌, ◌<◌, ◌≤◌, [], length, take, drop, slice_index};
+ghost use Rattle.std.specs.Prelude.{◌≡◌, ◌+◌, ◌<◌, ◌≤◌, [], min, length, take, drop, slice_index};
 ghost use Rattle.std.specs.Option.{ForSome};
 ghost use Rattle.text.specs.Words.{split, feed};
 
@@ -40,13 +40,12 @@ impl<'a> Lines<'a> {
 
 // The place of the first line feed from `from` on, or the end of the text.
 fn line_end(text: &[u8], from: usize) -> usize
-    requires { from ≤ length text.now }
-    ensures after { from ≤ result }
+    ensures after { min from (length text.now) ≤ result }
     ensures within { result ≤ length text.now }
     ensures stops { result < length text.now → slice_index text.now result ≡ 10 }
     ensures same { split feed [] (drop from text.now) ≡ split feed (drop from (take result text.now)) (drop result text.now) }
 {
-    first_from(text, from, |b| b == b'\n')
+    first_from(text, from, |byte| byte == b'\n')
 }
 
 impl<'a> Iterator for Lines<'a> {

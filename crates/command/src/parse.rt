@@ -1,7 +1,6 @@
 // A command line as a value: a letter, and the numbers after it.
-ghost use Rattle.std.specs.Prelude.{◌≡◌, ◌<◌, ◌≤◌, Bool, true, false, length, drop, slice_index};
+ghost use Rattle.std.specs.Prelude.{◌≡◌, ◌≤◌, Bool, true, false, length, drop};
 ghost use Rattle.text.specs.Tokens.{tokens_from};
-ghost use Rattle.text.specs.Words.{gap};
 ghost use Rattle.command.specs.Asked.{Admits, Asked, Asks, admitted, answered, asked, asked_by, asked_on, first_parsed, numbers_in, parsed, parsed_as};
 ghost use Rattle.command.specs.Counted.{first_two, two_held};
 
@@ -76,11 +75,11 @@ fn command_of(letter: char, numbers: &[i32]) -> Result<Command, Refusal>
     ensures { admitted false letter ≡ true → answered asked result ≡ asked_by letter numbers.now }
 {
     match (letter, numbers) {
-        ('r', [k]) => Ok(Command::Read {
-            register: RegisterNumber::try_from(*k)?,
+        ('r', [register]) => Ok(Command::Read {
+            register: RegisterNumber::try_from(*register)?,
         }),
-        ('p', [k]) => Ok(Command::Print {
-            register: RegisterNumber::try_from(*k)?,
+        ('p', [register]) => Ok(Command::Print {
+            register: RegisterNumber::try_from(*register)?,
         }),
         ('q', []) => Ok(Command::Quit),
         _ => Err(Refusal::WrongNumberCount),

@@ -19,7 +19,7 @@ impl Layer {
     pub fn of_call(refusal: Refusal) -> Layer
         ensures { result ≡ layer_of (fault_of refusal) }
     {
-        // Told by number, as docs/REFUSALS.md tells it: its eleven variants in a row would be no plainer.
+        // Told by numbers, as docs/FORMATS.md tells it: eleven variants in a row would be no plainer.
         match refusal.number() {
             20..=36 => Layer::Sheet,
             _ => Layer::Calculator,
