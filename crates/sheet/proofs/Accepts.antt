@@ -1,14 +1,14 @@
 -- What is read is a sheet in words, and every sheet in words is read.
 use Rattle.std.proofs.Common.{◌≡◌, ℕ, suc, ◌+◌, ◌-◌, ◌≤◌, Bool, true, false, cond, not, ◌&&◌, ◌||◌, eqb, ltb, leb, List, [], ◌∷◌, ◌++◌, length, get_or, set, Some, None, Ok, Err, Option, Result, sym, refl, ap, ◌∙◌, subst, append_assoc, append-nil, arith}
 use Rattle.std.proofs.lemmas.Bool.{le-ltb, cond-true, cond-false}
-use Rattle.std.proofs.lemmas.List.{length_push, get_or_at, set_at}
+use Rattle.std.proofs.lemmas.List.{length_push, get_or_at, set_at, nil_from_length}
 use Rattle.cube.specs.Refusals.{Fault}
 use Rattle.cube.specs.declared.slot.Slot.{Slot}
 use Rattle.sheet.specs.declared.reading.ReaderState.{ReaderState}
 use Rattle.sheet.specs.declared.reading.ReaderState.TheVariants.{BeforeLine1, BeforeLine2, AmongCubes}
 use Rattle.sheet.specs.declared.reading.Deed.{Deed}
 use Rattle.sheet.specs.declared.reading.Deed.TheVariants.{Put}
-use Rattle.text.specs.Tokens.{Stream, tok, end, bad, num, eol, between, tokens_from}
+use Rattle.text.specs.Tokens.{Tok, Stream, tok, end, bad, num, eol, between, tokens_from}
 use Rattle.cube.specs.Slots.{Cube, Cover, blank_cube}
 use Rattle.text.specs.Numerals.{size_in, minus_in}
 use Rattle.sheet.specs.Reading.{act, run, refuse, on_line}
@@ -66,9 +66,9 @@ alone_of : (w : Word) (l : Line) (k : ℕ) → l ≡ [] → Number w k → Alone
 alone_of w [] k e h = h
 alone_of w (v ∷ l) k e h = cc
 
-empty_is : (l : Line) → length l ≡ 0 → l ≡ []
-empty_is [] e = refl
-empty_is (w ∷ l) e = absurd (omega arith)
+-- what comes from a token on, where the same cubes come after it
+leads : {n most : ℕ} {s s' : ReaderState} {cs cs' : Cover} {t : Tok} {z : Stream} {out : Cover} (r : Comes n most s cs z out) → Rest n most s' cs' (ahead (tok t z)) (after (tok t z)) r.cubes out → Comes n most s' cs' (tok t z) out
+leads r rest = record { clean = r.clean; cubes = r.cubes; rest = rest }
 
 accepted : (n most : ℕ) (s : ReaderState) (cs : Cover) (z : Stream) (out : Cover) → run n most s cs z ≡ Ok out → Comes n most s cs z out
 accepted n most s cs (bad code at) out e = cc
@@ -85,14 +85,14 @@ accepted n most BeforeLine1 cs (tok (num w at) z) out e =
     let q = passes n most cs z out _ 30 at _ e in
     let r = accepted n most (BeforeLine2 false) cs z out q.1 in
     let k = is_n (minus_in w) (size_in w) n q.0 in
-    record { clean = r.clean; cubes = r.cubes; rest = (r.rest.0, (alone_of w (ahead z) n r.rest.1 k, r.rest.2)) }
+    leads r (r.rest.0, (alone_of w (ahead z) n r.rest.1 k, r.rest.2))
 accepted n most (BeforeLine2 false) cs (tok (num w at) z) out e = cc
 accepted n most (BeforeLine2 true) cs (tok (num w at) z) out e =
     let q = passes n most cs z out (minus_in w || ltb most (size_in w)) 31 at (Ok (on_line (size_in w) 0 0, None)) e in
     let r = accepted n most (on_line (size_in w) 0 0) cs z out q.1 in
     let k = up_to (minus_in w) (size_in w) most q.0 in
-    let l = empty_is (ahead z) r.rest.1 in
-    record { clean = r.clean; cubes = r.cubes; rest = (r.rest.0 ∙ ap (λ x. puts x cs ++ r.cubes) l, (alone_of w (ahead z) (length r.cubes) l (k.0, sym r.rest.3), omega (arith, r.rest.3, k.1), r.rest.4)) }
+    let l = nil_from_length (ahead z) r.rest.1 in
+    leads r (r.rest.0 ∙ ap (λ x. puts x cs ++ r.cubes) l, (alone_of w (ahead z) (length r.cubes) l (k.0, sym r.rest.3), omega (arith, r.rest.3, k.1), r.rest.4))
 accepted n most (AmongCubes left None) cs (tok (num w at) z) out e =
     let q = passes n most cs z out (eqb left 0) 35 at (opening? n left w at) e in
     let q' = passes n most cs z out (minus_in w || ltb n (size_in w)) 32 at (opening n left w) q.1 in
@@ -112,23 +112,17 @@ accepted n most (AmongCubes left (Some line)) cs (tok (num w at) z) out e =
     let r = accepted n most (on_line left (line.left - 1) v) (act (Some (Put v (ticked w))) cs) z out q''.1 in
     let k = variable_in v n q'.0 in
     let all : suc (length (ahead z)) ≡ line.left = omega (arith, some line.left q.0, r.rest.1) in
-    record { clean = r.clean; cubes = r.cubes; rest = (r.rest.0, all, (above v line.last q''.0, k.1, r.rest.2), r.rest.3, r.rest.4) }
-accepted n most BeforeLine1 cs (tok (eol at) z) out e =
-    let r = accepted n most BeforeLine1 cs z out e in
-    record { clean = r.clean; cubes = r.cubes; rest = r.rest }
+    leads r (r.rest.0, all, (above v line.last q''.0, k.1, r.rest.2), r.rest.3, r.rest.4)
+accepted n most BeforeLine1 cs (tok (eol at) z) out e = let r = accepted n most BeforeLine1 cs z out e in leads r r.rest
 accepted n most (BeforeLine2 false) cs (tok (eol at) z) out e =
     let r = accepted n most (BeforeLine2 true) cs z out e in
-    record { clean = r.clean; cubes = r.cubes; rest = (r.rest.0, refl, r.rest.1) }
-accepted n most (BeforeLine2 true) cs (tok (eol at) z) out e =
-    let r = accepted n most (BeforeLine2 true) cs z out e in
-    record { clean = r.clean; cubes = r.cubes; rest = r.rest }
-accepted n most (AmongCubes left None) cs (tok (eol at) z) out e =
-    let r = accepted n most (AmongCubes left None) cs z out e in
-    record { clean = r.clean; cubes = r.cubes; rest = r.rest }
+    leads r (r.rest.0, refl, r.rest.1)
+accepted n most (BeforeLine2 true) cs (tok (eol at) z) out e = let r = accepted n most (BeforeLine2 true) cs z out e in leads r r.rest
+accepted n most (AmongCubes left None) cs (tok (eol at) z) out e = let r = accepted n most (AmongCubes left None) cs z out e in leads r r.rest
 accepted n most (AmongCubes left (Some line)) cs (tok (eol at) z) out e =
     let q = passes n most cs z out _ 36 at _ e in
     let r = accepted n most (AmongCubes left None) cs z out q.1 in
-    record { clean = r.clean; cubes = r.cubes; rest = (r.rest.0, sym (none line.left q.0), tt, r.rest.1, r.rest.2) }
+    leads r (r.rest.0, sym (none line.left q.0), tt, r.rest.1, r.rest.2)
 
 alone_is : (w : Word) (l : Line) (k : ℕ) → Alone (w ∷ l) k → (l ≡ []) × Number w k
 alone_is w [] k h = (refl, h)
