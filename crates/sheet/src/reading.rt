@@ -1,7 +1,8 @@
 // A sheet is read token by token, and its cubes are put at the front of a table.
-ghost use Rattle.std.specs.Prelude.{◌≡◌, ℕ, ◌≤◌, true, map, length, take, drop, IfOk};
+ghost use Rattle.std.specs.Prelude.{◌≡◌, ℕ, ◌≤◌, true, cond, ◌||◌, nat_lt, map, length, take, drop, IfOk};
 ghost use Rattle.cube.specs.Refusals.{told};
-ghost use Rattle.text.specs.Tokens.{num, eol, tok_of};
+ghost use Rattle.text.specs.Numerals.{size_in, minus_in};
+ghost use Rattle.text.specs.Tokens.{num, tok_of};
 ghost use Rattle.sheet.specs.Reading.{step_of, act, complete_in, read_sheet, read_into, Reads};
 ghost use Rattle.sheet.specs.Places.{counted, Ready, Within};
 ghost use Rattle.sheet.specs.Sheet.{Accepts};
@@ -20,13 +21,13 @@ pub const MOST_BYTES: usize = 65535;
 #[derive(Clone, Copy)]
 pub enum ReaderState {
     BeforeLine1,
-    // A yes or no alone: whether no number has been met on the line, since line 1 has ended.
+    // Whether line 1 has ended; a flag and no fourth variant, since a rule of the project gives the reader three states.
     BeforeLine2 { fresh: bool },
     // How many cubes are still to come, and the line, where a number has been met on it.
     AmongCubes { left: u32, line: Option<Literals> },
 }
 
-/// How many literals the line of a cube still owes, and the last of its variables so far.
+/// How many literals a line still owes, none on line 2, and the last of its variables so far.
 #[derive(Clone, Copy)]
 pub struct Literals {
     left: u32,
@@ -41,6 +42,9 @@ pub enum Deed {
     Put { variable: u32, slot: Slot },
 }
 
+// The next state and what is asked of the cubes, or the fault.
+type Step = Result<(ReaderState, Option<Deed>), Refusal>;
+
 impl ReaderState {
     // Whether a text may end here.
     fn is_complete(self) -> bool
@@ -53,44 +57,27 @@ impl ReaderState {
     }
 }
 
-fn step(
-    shape: Shape,
-    state: ReaderState,
-    token: Token,
-) -> Result<(ReaderState, Option<Deed>), Refusal>
+fn step(shape: Shape, state: ReaderState, token: Token) -> Step
     ensures { told result ≡ step_of shape.variables.value shape.places.value state (tok_of token.entry) }
 {
     match (state, token) {
         (ReaderState::BeforeLine1, Token::Number { numeral, at }) => on_line_1(shape, numeral, at),
         (ReaderState::BeforeLine1, Token::LineEnd { .. }) => Ok((state, None)),
-        (ReaderState::BeforeLine2 { fresh: false }, Token::Number { at, .. }) => {
-            Err(Refusal::NumberTooMany { at })
-        }
         (ReaderState::BeforeLine2 { fresh: true }, Token::Number { numeral, at }) => {
             on_line_2(shape, numeral, at)
+        }
+        (ReaderState::BeforeLine2 { fresh: false }, Token::Number { at, .. }) => {
+            Err(Refusal::NumberTooMany { at })
         }
         (ReaderState::BeforeLine2 { .. }, Token::LineEnd { .. }) => {
             Ok((ReaderState::BeforeLine2 { fresh: true }, None))
         }
-        (ReaderState::AmongCubes { left, line: None }, Token::Number { numeral, at }) => {
-            next_cube(shape, left, numeral, at)
-        }
-        (
-            ReaderState::AmongCubes {
-                left,
-                line: Some(line),
-            },
-            Token::Number { numeral, at },
-        ) => { next_literal(shape, left, line, numeral, at) }
-        (ReaderState::AmongCubes { line: None, .. }, Token::LineEnd { .. }) => Ok((state, None)),
-        (
-            ReaderState::AmongCubes {
-                left,
-                line: Some(line),
-            },
-            Token::LineEnd { at },
-        ) => {
-            if line.left > 0 {
+        (ReaderState::AmongCubes { left, line }, Token::Number { numeral, at }) => match line {
+            None => next_cube(shape, left, numeral, at),
+            Some(line) => next_literal(shape, left, line, numeral, at),
+        },
+        (ReaderState::AmongCubes { left, line }, Token::LineEnd { at }) => {
+            if line.is_some_and(|line| line.left > 0) {
                 return Err(Refusal::EndsTooEarly { at });
             }
             Ok((ReaderState::AmongCubes { left, line: None }, None))
@@ -99,11 +86,8 @@ fn step(
 }
 
 // Line 1 holds the number of variables.
-fn on_line_1(
-    shape: Shape,
-    numeral: Numeral,
-    at: usize,
-) -> Result<(ReaderState, Option<Deed>), Refusal>
+// Here and below a numeral and its offset stay two parameters, as the public `Token::Number` holds them.
+fn on_line_1(shape: Shape, numeral: Numeral, at: usize) -> Step
     ensures { told result ≡ step_of shape.variables.value shape.places.value ReaderState.BeforeLine1 (num numeral.entry.text.now at) }
 {
     if numeral.value() != i32::from(shape.variables()) {
@@ -112,64 +96,38 @@ fn on_line_1(
     Ok((ReaderState::BeforeLine2 { fresh: false }, None))
 }
 
+// The number, where it is one from 0 to `most`.
+fn count_up_to(numeral: Numeral, most: u16) -> Option<u32>
+    ensures { result ≡ cond (minus_in numeral.entry.text.now || nat_lt most (size_in numeral.entry.text.now)) None (Some (size_in numeral.entry.text.now)) }
+{
+    let count = u32::try_from(numeral.value()).ok()?;
+    (count <= u32::from(most)).then_some(count)
+}
+
 // Line 2 holds the number of cubes.
-fn on_line_2(
-    shape: Shape,
-    numeral: Numeral,
-    at: usize,
-) -> Result<(ReaderState, Option<Deed>), Refusal>
+fn on_line_2(shape: Shape, numeral: Numeral, at: usize) -> Step
     ensures { told result ≡ step_of shape.variables.value shape.places.value (ReaderState.BeforeLine2 true) (num numeral.entry.text.now at) }
 {
-    let cubes = numeral.value();
-    if cubes < 0 || cubes > i32::from(shape.places()) {
-        return Err(Refusal::CubesBeyondRange { at });
-    }
-    let line = Literals { left: 0, last: 0 };
-    Ok((
-        ReaderState::AmongCubes {
-            left: cubes as u32,
-            line: Some(line),
-        },
-        None,
-    ))
+    let left = count_up_to(numeral, shape.places()).ok_or(Refusal::CubesBeyondRange { at })?;
+    let line = Some(Literals { left: 0, last: 0 });
+    Ok((ReaderState::AmongCubes { left, line }, None))
 }
 
 // The line of a cube begins with how many literals it has.
-fn next_cube(
-    shape: Shape,
-    left: u32,
-    numeral: Numeral,
-    at: usize,
-) -> Result<(ReaderState, Option<Deed>), Refusal>
+fn next_cube(shape: Shape, left: u32, numeral: Numeral, at: usize) -> Step
     ensures { told result ≡ step_of shape.variables.value shape.places.value (ReaderState.AmongCubes left None) (num numeral.entry.text.now at) }
 {
-    if left == 0 {
-        return Err(Refusal::NumberTooMany { at });
-    }
-    let literals = numeral.value();
-    if literals < 0 || literals > i32::from(shape.variables()) {
-        return Err(Refusal::LiteralsBeyondRange { at });
-    }
-    let line = Literals {
-        left: literals as u32,
+    let left = left.checked_sub(1).ok_or(Refusal::NumberTooMany { at })?;
+    let most = u16::from(shape.variables());
+    let literals = count_up_to(numeral, most).ok_or(Refusal::LiteralsBeyondRange { at })?;
+    let line = Some(Literals {
+        left: literals,
         last: 0,
-    };
-    Ok((
-        ReaderState::AmongCubes {
-            left: left - 1,
-            line: Some(line),
-        },
-        Some(Deed::Open),
-    ))
+    });
+    Ok((ReaderState::AmongCubes { left, line }, Some(Deed::Open)))
 }
 
-fn next_literal(
-    shape: Shape,
-    left: u32,
-    line: Literals,
-    numeral: Numeral,
-    at: usize,
-) -> Result<(ReaderState, Option<Deed>), Refusal>
+fn next_literal(shape: Shape, left: u32, line: Literals, numeral: Numeral, at: usize) -> Step
     ensures { told result ≡ step_of shape.variables.value shape.places.value (ReaderState.AmongCubes left (Some line)) (num numeral.entry.text.now at) }
 {
     if line.left == 0 {
@@ -184,15 +142,12 @@ fn next_literal(
         return Err(Refusal::LiteralNotRising { at });
     }
     let slot = if literal < 0 { Slot::No } else { Slot::Yes };
-    let line = Literals {
+    let line = Some(Literals {
         left: line.left - 1,
         last: variable,
-    };
+    });
     Ok((
-        ReaderState::AmongCubes {
-            left,
-            line: Some(line),
-        },
+        ReaderState::AmongCubes { left, line },
         Some(Deed::Put { variable, slot }),
     ))
 }

@@ -46,6 +46,7 @@ fn count_literals<C: CubeNotation>(shape: Shape, cube: C) -> usize
 }
 
 // The literals of the shape's variables.
+// Here and below shape, cubes and writer stay parameters: as fields of a struct they are named longer in each contract, which would say besides that the shape stays.
 fn put_literals<C: CubeNotation>(shape: Shape, cube: C, writer: &mut Writer)
     ensures { Lays writer.old (write_literals 1 (take shape.variables.value (C.slots cube))) writer.new }
 {
