@@ -24,11 +24,11 @@ use Rattle.calculator.proofs.Reading.{read_err, read_ok, filled_view}
 use Rattle.calculator.proofs.Writing.{operand_part, part_few, write_step}
 
 -- a part of a table, and the sheet of its cubes
-abbrev pub part : {X : Type 0} → List X → ℕ → ℕ → ℕ → List X
-part t i q c = take ((i * q + c) - i * q) (drop (i * q) t)
+abbrev pub part : {X : Type 0} → List X → ℕ → ℕ → List X
+part t start c = take ((start + c) - start) (drop start t)
 
-abbrev pub part_sheet : {X : Type 0} → (X → Cube) → Calculator → List X → ℕ → ℕ → ℕ → List ℕ
-part_sheet slots m t i q c = write_sheet m.shape.variables.value (map (blank_above m.shape.variables.value) (map slots (part t i q c)))
+abbrev pub part_sheet : {X : Type 0} → (X → Cube) → Calculator → List X → ℕ → ℕ → List ℕ
+part_sheet slots m t start c = write_sheet m.shape.variables.value (map (blank_above m.shape.variables.value) (map slots (part t start c)))
 
 module _ {X : Type 0} (slots : X → Cube) (m : Calculator) (t : List X) (k : ℕ) (below : k < 32) where
   pub short_write_lives : (room w : ℕ) → length t < 32 * m.shape.places.value
@@ -69,11 +69,11 @@ module _ {X : Type 0} (slots : X → Cube) (m : Calculator) (t : List X) (k : �
       lives_on {w = view u (map slots t')} below refl (read_taken v k bytes w (take n (map slots work)) (view u (map slots t')) long e (same ∙ after))
 
   -- a write of the cubes from the first place of the register on, as many as its record says
-  pub write_lives : (i q c : ℕ) (out out' : List ℕ) (r : Result ℕ Refusal)
-      → Writes (part_sheet slots m t i q c) out r out' → Exact (length (part t i q c)) (part_sheet slots m t i q c) out r
-      → 32 * m.shape.places.value ≤ length t → i ≡ k → q ≡ m.shape.places.value → c ≡ count_of m k
+  pub write_lives : (start c : ℕ) (out out' : List ℕ) (r : Result ℕ Refusal)
+      → Writes (part_sheet slots m t start c) out r out' → Exact (length (part t start c)) (part_sheet slots m t start c) out r
+      → 32 * m.shape.places.value ≤ length t → start ≡ k * m.shape.places.value → c ≡ count_of m k
       → LivesOn (view m (map slots t)) (event (write k (length out)) 0 (text_outcome r out')) (view m (map slots t))
-  write_lives i q c out out' r w x h ei eq ec =
+  write_lives start c out out' r w x h es ec =
       let v = view m (map slots t) in
-      let few : length (part t i q c) ≤ 256 = let p = part_few t (i * q) c in let b = m.within k in let top = m.shape.places.high in omega arith in
-      lives_on {w = v} below refl (write_step v k _ _ out out' r (simp length-map (omega arith)) few w x (operand_part slots v t k i q c refl ei eq ec))
+      let few : length (part t start c) ≤ 256 = let p = part_few t start c in let b = m.within k in let top = m.shape.places.high in omega arith in
+      lives_on {w = v} below refl (write_step v k _ _ out out' r (simp length-map (omega arith)) few w x (operand_part slots v t k start c refl es ec))

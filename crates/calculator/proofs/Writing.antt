@@ -12,16 +12,15 @@ use Rattle.life.proofs.Ends.{write_without_room, write_made}
 use Rattle.calculator.specs.Seen.{text_outcome}
 
 -- an operand is the part of the table at its places, Blank above n
-pub operand_part : {X : Type 0} (f : X → Cube) (v : View) (t : List X) (a i q c : ℕ) → v.cells ≡ map f t → i ≡ a → q ≡ v.places
+pub operand_part : {X : Type 0} (f : X → Cube) (v : View) (t : List X) (a start c : ℕ) → v.cells ≡ map f t → start ≡ a * v.places
     → c ≡ (get_or v.registers a (of_count 0)).count
-    → map (blank_above v.n) (map f (take ((i * q + c) - i * q) (drop (i * q) t))) ≡ operand v a
-operand_part f v t a i q c ec ei eq en =
+    → map (blank_above v.n) (map f (take ((start + c) - start) (drop start t))) ≡ operand v a
+operand_part f v t a start c ec es en =
     let piece : ℕ → ℕ → List Cube → Cover = λ m at cells. map (blank_above v.n) (take m (drop at cells)) in
-    let m : (i * q + c) - i * q ≡ c = omega arith in
-    ap (λ z. map (blank_above v.n) (map f (take z (drop (i * q) t)))) m
-    ∙ ap (map (blank_above v.n)) (sym (take-map f c (drop (i * q) t)) ∙ ap (take c) (sym (drop-map f (i * q) t)))
-    ∙ ap (λ z. piece c (z * q) (map f t)) ei ∙ ap (λ z. piece c (a * z) (map f t)) eq
-    ∙ ap (piece c (a * v.places)) (sym ec) ∙ ap (λ z. piece z (a * v.places) v.cells) en
+    let m : (start + c) - start ≡ c = omega arith in
+    ap (λ z. map (blank_above v.n) (map f (take z (drop start t)))) m
+    ∙ ap (map (blank_above v.n)) (sym (take-map f c (drop start t)) ∙ ap (take c) (sym (drop-map f start t)))
+    ∙ ap (piece c start) (sym ec) ∙ ap (λ z. piece c z v.cells) es ∙ ap (λ z. piece z (a * v.places) v.cells) en
 
 -- and has at most as many cubes as its record says
 pub part_few : {X : Type 0} (t : List X) (s c : ℕ) → length (take ((s + c) - s) (drop s t)) ≤ c

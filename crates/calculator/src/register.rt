@@ -6,6 +6,7 @@ ghost use Rattle.cube.specs.Refusals.{fault, fault_of};
 use cube::ranged::Ranged;
 use cube::refusal::Refusal;
 
+// A type over a range of its own, as a variable's: neither number can be handed in for the other, and each has its refusal.
 #[derive(Clone, Copy, PartialEq, Eq, Debug)]
 pub struct RegisterNumber {
     number: Ranged<0, 31>,
@@ -37,6 +38,6 @@ impl From<RegisterNumber> for usize {
     ghost from_gives = { λ k index. index ≡ k.number.value };
 
     fn from(k: RegisterNumber) -> usize {
-        k.number() as usize
+        usize::from(k.number())
     }
 }

@@ -5,6 +5,9 @@ ghost use Rattle.life.specs.View.{of_count};
 use crate::register::RegisterNumber;
 use std::marker::Model;
 
+/// How many registers there are, as clauses say by number.
+pub(crate) const REGISTERS: usize = 32;
+
 /// What a calculator keeps of one register.
 #[derive(Clone, Copy)]
 pub struct Record {
@@ -46,7 +49,7 @@ impl Record {
 /// The library has no heap, so the cubes stand in a table that the host lends at each call, and a record has their number alone.
 #[derive(Clone, Copy)]
 pub struct Registers {
-    records: [Record; 32],
+    records: [Record; REGISTERS],
 }
 
 impl Model for Registers {
@@ -65,7 +68,7 @@ impl Registers {
         ensures { result ≡ replicate 32 (of_count 0) }
     {
         Registers {
-            records: [Record::empty(); 32],
+            records: [Record::empty(); REGISTERS],
         }
     }
 

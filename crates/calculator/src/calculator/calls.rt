@@ -12,7 +12,7 @@ ghost use Rattle.calculator.specs.Kept.{Fills, Put, count_of};
 
 use crate::calculator::Calculator;
 use crate::register::RegisterNumber;
-use crate::registers::Registers;
+use crate::registers::{REGISTERS, Registers};
 use cube::notation::CubeNotation;
 use cube::refusal::Refusal;
 use cube::shape::Shape;
@@ -45,8 +45,8 @@ impl Calculator {
             (view self.new (map C.slots table.new)) }
         ensures kept { Fills k.number.value result self.old table.old self.new table.new }
     {
-        let places = self.shape.places() as usize;
-        if table.len() < 32 * places || working.len() < 64 * places {
+        let places = usize::from(self.shape.places());
+        if table.len() < REGISTERS * places || working.len() < 2 * REGISTERS * places {
             return Err(Refusal::TableTooShort);
         }
         let count = read_sheet(self.shape, text, working)?;
@@ -66,13 +66,19 @@ impl Calculator {
             (view self.new (map C.slots table.now)) }
         ensures kept { Put result self.old out.old self.new out.new }
     {
-        let places = self.shape.places() as usize;
-        if table.len() < 32 * places {
+        if table.len() < REGISTERS * usize::from(self.shape.places()) {
             return Err(Refusal::TableTooShort);
         }
-        let start = usize::from(a) * places;
-        let count = self.registers.count(a) as usize;
+        let start = self.first_place(a);
+        let count = usize::from(self.registers.count(a));
         write_sheet(self.shape, &table[start..start + count], out)
+    }
+
+    // The places of a register stand together, those of register 0 first.
+    fn first_place(&self, k: RegisterNumber) -> usize
+        ensures { result ≡ k.number.value * self.now.shape.places.value }
+    {
+        usize::from(k) * usize::from(self.shape.places())
     }
 
     // Register k takes over the first `count` cubes of the working table.
@@ -91,7 +97,7 @@ impl Calculator {
         ensures held { count_of self.new k.number.value ≡ count }
         ensures records { self.new.registers ≡ slice_set self.old.registers k.number.value (of_count count) }
     {
-        let start = usize::from(k) * self.shape.places() as usize;
+        let start = self.first_place(k);
         table[start..start + count].copy_from_slice(&working[..count]);
         self.registers.hold(k, count as u16);
     }
