@@ -12,10 +12,11 @@ pub struct Ranged<const LOW: u16, const HIGH: u16> {
 
 impl<const LOW: u16, const HIGH: u16> Ranged<LOW, HIGH> {
     /// This number, if it is within the range.
+    // No TryFrom: each type over a range has a refusal of its own, so there is none to give here.
     pub fn new(value: i32) -> Option<Self>
         ensures { MatchOption result (Outside LOW HIGH value) (λ r. pos r.value ≡ value) }
     {
-        if value < LOW as i32 || value > HIGH as i32 {
+        if value < i32::from(LOW) || value > i32::from(HIGH) {
             return None;
         }
         Some(Ranged {
@@ -30,7 +31,7 @@ impl<const LOW: u16, const HIGH: u16> Ranged<LOW, HIGH> {
         ensures { result.value ≡ max LOW (min value HIGH) }
     {
         Ranged {
-            value: value.clamp(LOW as u32, HIGH as u32) as u16,
+            value: value.clamp(u32::from(LOW), u32::from(HIGH)) as u16,
         }
     }
 

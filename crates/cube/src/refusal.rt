@@ -55,7 +55,7 @@ impl Refusal {
         }
     }
 
-    /// The offset of the fault in its text; 0 where none is named.
+    /// The offset of the fault in its text; 0 where none is named, since that is what a host is told and a console prints.
     pub fn offset(self) -> usize
         ensures { result ≡ (fault_of self).offset }
     {

@@ -6,6 +6,7 @@ ghost use Rattle.cube.specs.Refusals.{fault, fault_of};
 use crate::ranged::Ranged;
 use crate::refusal::Refusal;
 
+// A type over a range of its own, as a register's: neither number can be handed in for the other, and each has its refusal.
 #[derive(Clone, Copy, PartialEq, Eq, Debug)]
 pub struct VariableNumber {
     number: Ranged<1, 20>,
