@@ -1,12 +1,13 @@
 -- The operations on a pair of words, against the slots that they mean. Assumes nothing.
-use Rattle.std.proofs.Common.{◌≡◌, ℕ, zero, suc, ◌+◌, ◌-◌, ◌*◌, ◌/◌, ◌%◌, ◌^◌, ◌<◌, ◌≤◌, ◌&&◌, eqb, [], ◌∷◌, get_or, set, Some, None, sym, refl, ap, ◌∙◌, subst, ap₂, le_of_suc-le-suc, not-suc-le-zero, div-one, arith}
+use Rattle.std.proofs.Common.{◌≡◌, ℕ, zero, suc, ◌+◌, ◌-◌, ◌*◌, ◌/◌, ◌%◌, ◌^◌, ◌<◌, ◌≤◌, ◌&&◌, eqb, [], ◌∷◌, get_or, set, true, sym, refl, ap, ◌∙◌, subst, ap₂, le_of_suc-le-suc, not-suc-le-zero, div-one, arith}
 use lib.Bits.{bit_and, bit_or, bit_xor, and_zero_r, and_mask}
-use Rattle.std.proofs.lemmas.Bool.{eq-eqb, ne_eqb}
+use Rattle.std.proofs.lemmas.Bool.{eqb-true}
 use Rattle.cube.specs.declared.slot.Slot.TheVariants.{Blank}
 use Rattle.cube.specs.Says.{bits, slot_says, cube_says}
 use Rattle.cube.specs.Slots.{slot_at, with_slot, slot_covers, cube_covers, prepend, slot_meet, cube_meet}
 use Rattle.min_max.specs.MinMax.{slot_of, pair_slots, ProperPair}
-use Rattle.cube.proofs.Meets.{only, prepend_only}
+use Rattle.std.specs.Bool.{then_some}
+use Rattle.cube.proofs.Meets.{prepend_then_some}
 use Rattle.cube.proofs.Digits.{put_code, ones, ones_half, ones_odd, zero_digits, and_half, or_half, xor_half, and_odd}
 use Rattle.cube.proofs.Digits.{or_odd, xor_odd, put, past_half, put_here_half, put_here_odd, put_later_half}
 use Rattle.cube.proofs.Digits.{put_later_odd, at_digits_2, at_digits_3, at_digits_4}
@@ -101,11 +102,11 @@ clash_odd : (m a A b B : ℕ) → clash m a A b B % 2 ≡ clash (m % 2) (a % 2) 
 clash_odd m a A b B = simp (and_odd, or_odd, xor_odd)
 
 meet_digit : (a A b B : ℕ) → slot_meet (slot_of (a % 2) (A % 2)) (slot_of (b % 2) (B % 2))
-    ≡ only (eqb (clash 1 (a % 2) (A % 2) (b % 2) (B % 2)) 0)
+    ≡ then_some (eqb (clash 1 (a % 2) (A % 2) (b % 2) (B % 2)) 0)
     (slot_of (lowest (a % 2) (A % 2) (b % 2) (B % 2)) (highest (a % 2) (A % 2) (b % 2) (B % 2)))
 meet_digit =
     at_digits_4 (λ p q r s. slot_meet (slot_of p q) (slot_of r s)
-    ≡ only (eqb (clash 1 p q r s) 0) (slot_of (lowest p q r s) (highest p q r s))) (
+    ≡ then_some (eqb (clash 1 p q r s) 0) (slot_of (lowest p q r s) (highest p q r s))) (
       (((refl, refl), (refl, refl)), ((refl, refl), (refl, refl))),
       (((refl, refl), (refl, refl)), ((refl, refl), (refl, refl))),
     )
@@ -118,9 +119,9 @@ joined_digit : (n a A b B : ℕ) →
 joined_digit n a A b B = simp (and_half, or_half, and_odd, or_odd)
 
 pub meet_pair : (n a A b B : ℕ) → cube_meet (pair_slots n a A) (pair_slots n b B)
-    ≡ only (eqb (clash (ones n) a A b B) 0) (pair_slots n (lowest a A b B) (highest a A b B))
+    ≡ then_some (eqb (clash (ones n) a A b B) 0) (pair_slots n (lowest a A b B) (highest a A b B))
 unfolding pair_slots
-meet_pair zero a A b B = ap (λ x. only (eqb x 0) []) (sym (and_zero_r _))
+meet_pair zero a A b B = ap (λ x. then_some (eqb x 0) []) (sym (and_zero_r _))
 meet_pair (suc n) a A b B =
     let m = ones n * 2 + 1 in
     let low = lowest (a % 2) (A % 2) (b % 2) (B % 2) in
@@ -134,22 +135,9 @@ meet_pair (suc n) a A b B =
     let zeros : eqb (clash m a A b B) 0 ≡ (eqb (over 1 low high) 0 && eqb (over (ones n) lows highs) 0) =
     zero_digits (clash m a A b B) ∙ ap₂ (λ x y. eqb x 0 && eqb y 0) last rest in
     ap₂ prepend (meet_digit a A b B) (meet_pair n (a / 2) (A / 2) (b / 2) (B / 2))
-    ∙ prepend_only (eqb (over 1 low high) 0) (eqb (over (ones n) lows highs) 0) (slot_of low high)
+    ∙ prepend_then_some (eqb (over 1 low high) 0) (eqb (over (ones n) lows highs) 0) (slot_of low high)
     (pair_slots n lows highs)
-    ∙ ap₂ only (sym zeros) (joined_digit n a A b B)
-
-pub meet_pair_some : (n a A b B : ℕ) → clash (ones n) a A b B ≡ 0
-    → Some (pair_slots n (lowest a A b B) (highest a A b B))
-    ≡ cube_meet (pair_slots n a A) (pair_slots n b B)
-meet_pair_some n a A b B e =
-    sym (meet_pair n a A b B
-    ∙ ap (λ t. only t (pair_slots n (lowest a A b B) (highest a A b B))) (eq-eqb _ 0 e))
-
-pub meet_pair_none : (n a A b B : ℕ) → (clash (ones n) a A b B ≡ 0 → ⊥)
-    → None ≡ cube_meet (pair_slots n a A) (pair_slots n b B)
-meet_pair_none n a A b B e =
-    sym (meet_pair n a A b B
-    ∙ ap (λ t. only t (pair_slots n (lowest a A b B) (highest a A b B))) (ne_eqb _ 0 e))
+    ∙ ap₂ then_some (sym zeros) (joined_digit n a A b B)
 
 -- ---- one slot
 
@@ -237,3 +225,10 @@ set_stays_proper a A i d D high le h proper =
     let low : d < 2 = omega arith in
     let near : i - 1 < 31 = omega arith in
     rw (put_code a (i - 1) d low near, put_code A (i - 1) D h near) (proper_put 20 (i - 1) a A d D le h proper)
+
+pub meet_code : (a A b B : ℕ) → then_some (eqb (clash 0xfffff a A b B) 0) (pair_slots 20 (lowest a A b B) (highest a A b B))
+    ≡ cube_meet (pair_slots 20 a A) (pair_slots 20 b B)
+meet_code a A b B = sym (meet_pair 20 a A b B)
+
+pub proper_meet_code : (low high : ℕ) → eqb (over 0xfffff low high) 0 ≡ true → ProperPair 20 low high
+proper_meet_code low high e = proper_meet 20 low high (eqb-true _ _ e)

@@ -20,8 +20,8 @@ pub struct MinMaxCube {
 }
 
 impl MinMaxCube {
-    // Two bounds of one type: a `From` of a pair would lose their names.
     /// The cube of any pair; the bits beyond the twentieth are not looked at.
+    // Two bounds of one type: a `From` of a pair would lose their names.
     pub fn from_bounds(min: u32, max: u32) -> MinMaxCube
         ensures { (result.min ≡ min) × (result.max ≡ max) }
     {
@@ -41,8 +41,8 @@ impl MinMaxCube {
     }
 }
 
-// Rust lets no `From` between `Slot` and a pair of `u32`, all of elsewhere, stand here; a type for the pair would serve two calls.
 // The slot whose least value is `low` and whose greatest is `high`.
+// Rust lets no `From` between `Slot` and a pair of `u32`, all of elsewhere, stand here; a type for the pair would serve two calls.
 fn slot_of(low: u32, high: u32) -> Slot
     ensures { result ≡ slot_of low high }
 {
@@ -54,6 +54,7 @@ fn slot_of(low: u32, high: u32) -> Slot
 }
 
 // The least and the greatest value that a slot lets through.
+// Rust lets no `From` between `Slot` and a pair of `u32`, all of elsewhere, stand here; a type for the pair would serve two calls.
 fn bounds(value: Slot) -> (u32, u32)
     ensures digits { (result.0 ≤ result.1) × (result.1 < 2) }
     ensures means { slot_of result.0 result.1 ≡ value }
@@ -99,7 +100,7 @@ impl CubeNotation for MinMaxCube {
         }
     }
 
-    #[tactic(auto, using(crate::proofs::Pair::meet_pair_some, crate::proofs::Pair::meet_pair_none, crate::proofs::Pair::proper_meet))]
+    #[tactic(auto, using(cube::proofs::Meets::map_then_some, crate::proofs::Pair::meet_code, cube::proofs::Meets::if_then_some, crate::proofs::Pair::proper_meet_code))]
     fn meet(self, other: MinMaxCube) -> Option<MinMaxCube>
         ensures means { option_map (λ c. pair_slots 20 c.min c.max) result
             ≡ cube_meet (pair_slots 20 self.min self.max) (pair_slots 20 other.min other.max) }
@@ -107,11 +108,7 @@ impl CubeNotation for MinMaxCube {
     {
         let min = (self.min & self.max) | (other.min & other.max);
         let max = (self.min | self.max) & (other.min | other.max);
-        if min & (max ^ ALL) & ALL == 0 {
-            Some(MinMaxCube { min, max })
-        } else {
-            None
-        }
+        (min & (max ^ ALL) & ALL == 0).then_some(MinMaxCube { min, max })
     }
 
     #[tactic(auto, using(crate::proofs::Pair::covers_code))]

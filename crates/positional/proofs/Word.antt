@@ -1,7 +1,7 @@
 -- The operations on one word of two-bit fields, against the slots that it means. Assumes nothing.
-use Rattle.std.proofs.Common.{◌≡◌, ℕ, zero, suc, ◌+◌, ◌-◌, ◌*◌, ◌/◌, ◌%◌, ◌^◌, ◌<◌, ◌≤◌, Bool, ◌&&◌, eqb, ◌∷◌, get_or, set, Some, None, sym, refl, ap, ◌∙◌, subst, ap₂, le_of_suc-le-suc, not-suc-le-zero, mul_assoc, mul-one, div-one, arith}
+use Rattle.std.proofs.Common.{◌≡◌, ℕ, zero, suc, ◌+◌, ◌-◌, ◌*◌, ◌/◌, ◌%◌, ◌^◌, ◌<◌, ◌≤◌, Bool, true, ◌&&◌, eqb, ◌∷◌, get_or, set, sym, refl, ap, ◌∙◌, subst, ap₂, le_of_suc-le-suc, not-suc-le-zero, mul_assoc, mul-one, div-one, arith}
 use lib.Bits.{bit_and, bit_or, bit_xor, and_zero_r, and_mask, xor_zero_r, xor_lt}
-use Rattle.std.proofs.lemmas.Bool.{eq-eqb, ne_eqb}
+use Rattle.std.proofs.lemmas.Bool.{eqb-true}
 use Rattle.std.proofs.lemmas.Nat.{field_of, shl_whole, shr-shr, pow-add}
 use Rattle.cube.specs.declared.slot.Slot.TheVariants.{Blank}
 use Rattle.cube.specs.Says.{bits, slot_says, cube_says}
@@ -9,7 +9,8 @@ use Rattle.cube.specs.Slots.{slot_at, with_slot, slot_covers, cube_covers, prepe
 use Rattle.positional.specs.Fields.{field_slot, word_slots, filled_field, filled_word, spread_word, state_pattern}
 use Rattle.positional.specs.Fields.{ProperWord}
 use Rattle.cube.proofs.Digits.{or_odd, Both, at_digit}
-use Rattle.cube.proofs.Meets.{only, prepend_only}
+use Rattle.std.specs.Bool.{then_some}
+use Rattle.cube.proofs.Meets.{prepend_then_some}
 use Rattle.positional.proofs.Quads.{and_quarter, or_quarter, xor_quarter, and_quad, or_quad, xor_quad, same_quads}
 use Rattle.positional.proofs.Quads.{eqb_quads, at_quad, at_quads_2}
 
@@ -116,10 +117,10 @@ covers_word (suc n) a b =
 -- ---- meet
 
 meet_field : (a b : ℕ) → slot_meet (field_slot (a % 4)) (field_slot (b % 4))
-    ≡ only (eqb (full 1 (bit_and (filled_field (a % 4)) (filled_field (b % 4)))) 1)
+    ≡ then_some (eqb (full 1 (bit_and (filled_field (a % 4)) (filled_field (b % 4)))) 1)
     (field_slot (bit_and (filled_field (a % 4)) (filled_field (b % 4))))
 meet_field = at_quads_2 (λ p q. slot_meet (field_slot p) (field_slot q)
-    ≡ only (eqb (full 1 (bit_and (filled_field p) (filled_field q))) 1)
+    ≡ then_some (eqb (full 1 (bit_and (filled_field p) (filled_field q))) 1)
     (field_slot (bit_and (filled_field p) (filled_field q))))
     ((refl, refl, refl, refl), (refl, refl, refl, refl), (refl, refl, refl, refl), (refl, refl, refl, refl))
 
@@ -134,7 +135,7 @@ common_quarter : (n a b : ℕ) → common (suc n) a b / 4 ≡ common n (a / 4) (
 common_quarter n a b = and_quarter (filled_word (suc n) a) (filled_word (suc n) b)
     ∙ ap₂ bit_and (filled_quarter n a) (filled_quarter n b)
 
-abbrev is_full : ℕ → ℕ → Bool
+abbrev pub is_full : ℕ → ℕ → Bool
 is_full m w = eqb (full m w) m
 
 full_test : (n w : ℕ) → is_full (fields 1 (suc n)) w ≡ (is_full 1 (w % 4) && is_full (fields 1 n) (w / 4))
@@ -146,35 +147,18 @@ full_test n w =
     ∙ ap₂ ◌&&◌ (ap₂ eqb (full_quad m w m4) m4) (ap₂ eqb (full_quarter m w ∙ ap (λ x. full x (w / 4)) mq) mq)
 
 pub meet_word : (n a b : ℕ) → cube_meet (word_slots n a) (word_slots n b)
-    ≡ only (is_full (fields 1 n) (common n a b)) (word_slots n (common n a b))
+    ≡ then_some (is_full (fields 1 n) (common n a b)) (word_slots n (common n a b))
 unfolding word_slots filled_word
 meet_word zero a b = refl
 meet_word (suc n) a b =
     let w = common (suc n) a b in
     ap₂ prepend (meet_field a b) (meet_word n (a / 4) (b / 4))
-    ∙ ap₂ (λ x y. prepend (only (is_full 1 x) (field_slot x))
-    (only (is_full (fields 1 n) y) (word_slots n y)))
+    ∙ ap₂ (λ x y. prepend (then_some (is_full 1 x) (field_slot x))
+    (then_some (is_full (fields 1 n) y) (word_slots n y)))
     (sym (common_quad n a b)) (sym (common_quarter n a b))
-    ∙ prepend_only (is_full 1 (w % 4)) (is_full (fields 1 n) (w / 4)) (field_slot (w % 4))
+    ∙ prepend_then_some (is_full 1 (w % 4)) (is_full (fields 1 n) (w / 4)) (field_slot (w % 4))
     (word_slots n (w / 4))
-    ∙ ap (λ t. only t (field_slot (w % 4) ∷ word_slots n (w / 4))) (sym (full_test n w))
-
-pub meet_word_some : (n a b f g : ℕ) → f ≡ filled_word n a → g ≡ filled_word n b
-    → full (fields 1 n) (bit_and f g) ≡ fields 1 n
-    → Some (word_slots n (bit_and f g)) ≡ cube_meet (word_slots n a) (word_slots n b)
-meet_word_some n a b f g p q e =
-    ap₂ (λ x y. Some (word_slots n (bit_and x y))) p q
-    ∙ sym (meet_word n a b
-    ∙ ap (λ t. only t (word_slots n (common n a b)))
-    (eq-eqb _ _ (sym (ap₂ (λ x y. full (fields 1 n) (bit_and x y)) p q) ∙ e)))
-
-pub meet_word_none : (n a b f g : ℕ) → f ≡ filled_word n a → g ≡ filled_word n b
-    → (full (fields 1 n) (bit_and f g) ≡ fields 1 n → ⊥)
-    → None ≡ cube_meet (word_slots n a) (word_slots n b)
-meet_word_none n a b f g p q e =
-    sym (meet_word n a b
-    ∙ ap (λ t. only t (word_slots n (common n a b)))
-    (ne_eqb _ _ (λ h. e (ap₂ (λ x y. full (fields 1 n) (bit_and x y)) p q ∙ h))))
+    ∙ ap (λ t. then_some t (field_slot (w % 4) ∷ word_slots n (w / 4))) (sym (full_test n w))
 
 -- ---- one field
 
@@ -328,6 +312,14 @@ spread_fits s = omega (arith, pattern_and_spread 20 s)
 
 pub pattern_code : (s : ℕ) → 0xaaaaaaaaaa - spread_word 20 s ≡ state_pattern 20 s
 pattern_code s = omega (arith, pattern_and_spread 20 s)
+
+pub meet_code : (a b f g : ℕ) → f ≡ filled_word 20 a → g ≡ filled_word 20 b
+    → then_some (is_full 0x5555555555 (bit_and f g)) (word_slots 20 (bit_and f g)) ≡ cube_meet (word_slots 20 a) (word_slots 20 b)
+meet_code a b f g p q =
+    ap₂ (λ x y. then_some (is_full 0x5555555555 (bit_and x y)) (word_slots 20 (bit_and x y))) p q ∙ sym (meet_word 20 a b)
+
+pub proper_meet_code : (w : ℕ) → is_full 0x5555555555 w ≡ true → ProperWord 20 w
+proper_meet_code w e = proper_full 20 w (eqb-true _ _ e)
 
 pub slot_code : (w i : ℕ) → 1 ≤ i → i ≤ 20 → field_slot (bit_and (w / 2 ^ (2 * (i - 1))) 3) ≡ slot_at (word_slots 20 w) i
 slot_code w i low high = ap field_slot (and_mask (w / 2 ^ (2 * (i - 1))) 2) ∙ slot_word 20 (i - 1) w (omega arith)

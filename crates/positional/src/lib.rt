@@ -53,7 +53,7 @@ fn filled(word: u64) -> u64
 fn spread(state: u32) -> u64
     ensures { result ≡ spread_word 20 state }
 {
-    let bits = (state & 0xf_ffff) as u64;
+    let bits = u64::from(state & 0xf_ffff);
     let halves = (bits | (bits << 16)) & 0xf_0000_ffff;
     let bytes = (halves | (halves << 8)) & 0xf_00ff_00ff;
     let nibbles = (bytes | (bytes << 4)) & 0xf_0f0f_0f0f;
@@ -69,6 +69,7 @@ fn pattern(state: u32) -> u64
     UPPER - spread(state)
 }
 
+// The slot that a field means.
 // Rust lets no `From` between `u64` and `Slot`, both of elsewhere, stand here; a type for a field would serve two calls.
 fn field_slot(field: u64) -> Slot
     ensures { result ≡ field_slot field }
@@ -80,6 +81,8 @@ fn field_slot(field: u64) -> Slot
     }
 }
 
+// The field that means a slot.
+// Rust lets no `From` between `u64` and `Slot`, both of elsewhere, stand here; a type for a field would serve two calls.
 fn slot_field(value: Slot) -> u64
     ensures field { (0 < result) × (result < 4) }
     ensures means { field_slot result ≡ value }
@@ -124,18 +127,14 @@ impl CubeNotation for PositionalCube {
         }
     }
 
-    #[tactic(auto, using(crate::proofs::Word::meet_word_some, crate::proofs::Word::meet_word_none, crate::proofs::Word::proper_full))]
+    #[tactic(auto, using(cube::proofs::Meets::map_then_some, cube::proofs::Meets::if_then_some, crate::proofs::Word::meet_code, crate::proofs::Word::proper_meet_code))]
     fn meet(self, other: PositionalCube) -> Option<PositionalCube>
         ensures means { option_map (λ c. word_slots 20 c.word) result
             ≡ cube_meet (word_slots 20 self.word) (word_slots 20 other.word) }
         ensures proper { IfSome result (λ m. ProperWord 20 m.word) }
     {
         let word = filled(self.word) & filled(other.word);
-        if (word | (word >> 1)) & LOWER == LOWER {
-            Some(PositionalCube { word })
-        } else {
-            None
-        }
+        ((word | (word >> 1)) & LOWER == LOWER).then_some(PositionalCube { word })
     }
 
     #[tactic(auto, using(crate::proofs::Word::covers_word))]
