@@ -1,11 +1,11 @@
-// The records of the 32 registers, which stand within the calculator.
+// The records of the 32 registers: within the calculator, so that no host changes a count behind it.
 ghost use Rattle.std.specs.Prelude.{◌≡◌, replicate, slice_index_or, slice_set};
 ghost use Rattle.life.specs.View.{of_count};
 
 use crate::register::RegisterNumber;
 use std::marker::Model;
 
-/// How many registers there are, as clauses say by number.
+// A type and a test need a constant; clauses say 32, as the definitions do.
 pub(crate) const REGISTERS: usize = 32;
 
 /// What a calculator keeps of one register.
@@ -79,7 +79,7 @@ impl Registers {
         self.records[usize::from(k)].count()
     }
 
-    /// Register k holds so many cubes from now on; its record is lent to be updated.
+    /// Register k holds so many cubes from now on.
     pub fn hold(&mut self, k: RegisterNumber, count: u16)
         ensures records { self.new ≡ slice_set self.old k.number.value (of_count count) }
         ensures held { slice_index_or self.new k.number.value (of_count 0) ≡ of_count count }
