@@ -6,6 +6,7 @@ use Rattle.std.proofs.lemmas.Nat.{shl_whole, shr-shr}
 use Rattle.std.proofs.lemmas.Bool.Decides.{nat_tests}
 use Rattle.std.proofs.lemmas.Bool.{cases_eq}
 
+-- the library's at one digit, with 2 in place of a power, so that `simp` finds them in a goal
 pub and_half : (a b : ℕ) → bit_and a b / 2 ≡ bit_and (a / 2) (b / 2)
 and_half a b = and_shr a b 1
 
