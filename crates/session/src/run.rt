@@ -27,11 +27,30 @@ pub const MOST_COMMAND_BYTES: usize = 4096;
 /// The places of each register of the console's calculator.
 pub const PLACES: i32 = 64;
 
+// What is refused where a whole text is too long.
+const TOO_LONG: RefusedLine = RefusedLine {
+    line: 0,
+    layer: Layer::Command,
+    refusal: Refusal::TextTooLong,
+};
+
 /// What a run leaves: all that it printed, and its calculator, if it made one.
 #[derive(Drop)]
 pub struct Run {
     pub output: Vec<u8>,
     pub calculator: Option<Calculator>,
+}
+
+impl Run {
+    // What is left where no calculator was made.
+    fn without_calculator(output: Vec<u8>) -> Run
+        ensures { result ≡ record { output = output; calculator = None } }
+    {
+        Run {
+            output,
+            calculator: None,
+        }
+    }
 }
 
 // What a line makes where no command came before it; nothing if it has separators alone.
@@ -75,40 +94,25 @@ pub fn run_text<C: CubeNotation>(
     ensures long { 4096 < length text.now → IfOk result (λ run. TextRefused run) × (table.new ≡ table.old) }
 {
     if text.len() > MOST_COMMAND_BYTES {
-        let too_long = RefusedLine {
-            line: 0,
-            layer: Layer::Command,
-            refusal: Refusal::TextTooLong,
-        };
-        return Ok(Run {
-            output: told(heap, too_long)?,
-            calculator: None,
-        });
+        return Ok(Run::without_calculator(told(heap, TOO_LONG)?));
     }
     let mut lines = Lines::new(text);
-    match open(&mut lines) {
-        Ok(Some(mut calculator)) => {
-            let mut desk = Desk {
-                heap,
-                calculator: &mut calculator,
-                files,
-                table,
-                working,
-                page,
-            };
-            let output = desk.run_lines(lines)?;
-            Ok(Run {
-                output,
-                calculator: Some(calculator),
-            })
-        }
-        Ok(None) => Ok(Run {
-            output: Vec::new(heap),
-            calculator: None,
-        }),
-        Err(refused) => Ok(Run {
-            output: print_refused(heap, refused, page)?,
-            calculator: None,
-        }),
-    }
+    let mut calculator = match open(&mut lines) {
+        Ok(Some(calculator)) => calculator,
+        Ok(None) => return Ok(Run::without_calculator(Vec::new(heap))),
+        Err(refused) => return Ok(Run::without_calculator(print_refused(heap, refused, page)?)),
+    };
+    let mut desk = Desk {
+        heap,
+        calculator: &mut calculator,
+        files,
+        table,
+        working,
+        page,
+    };
+    let output = desk.run_lines(lines)?;
+    Ok(Run {
+        output,
+        calculator: Some(calculator),
+    })
 }
