@@ -1,5 +1,5 @@
 -- A line that was run, from what the calls that it made have shown.
-use Rattle.std.proofs.Common.{◌≡◌, ℕ, ◌<◌, ◌≤◌, Bool, true, false, cond, eqb, List, [], ◌∷◌, length, take, drop, Some, None, Ok, Err, Option, Result, sym, refl, ap, subst, arith, ltb-true}
+use Rattle.std.proofs.Common.{IsErrAnd, ◌≡◌, ℕ, ◌<◌, ◌≤◌, Bool, true, false, cond, eqb, List, [], ◌∷◌, length, take, drop, Some, None, Ok, Err, Option, Result, sym, refl, ap, subst, arith, ltb-true}
 use Rattle.cube.specs.declared.refusal.Refusal.{Refusal}
 use Rattle.cube.specs.declared.refusal.Refusal.TheVariants.{NoSuchRegister, NoSuchVariable, ShapeBeyondRange, TableTooShort, OutputTooShort, ByteNotAllowed, SixthDigit, MinusWithoutDigit, TextTooLong, NotTheVariables, CubesBeyondRange, LiteralsBeyondRange, LiteralBeyondRange, LiteralNotRising, NumberTooMany, EndsTooEarly, NoSuchCommand, WrongNumberCount, NoSuchFile}
 use Rattle.cube.specs.Refusals.{Fault, fault, fault_of}
@@ -18,14 +18,20 @@ use Rattle.command.specs.Lines.{Line}
 use Rattle.command.specs.Report.{report, layer_of}
 use Rattle.session.specs.declared.failure.Failure.{Failure}
 use Rattle.session.specs.declared.failure.Failure.TheVariants.{Refused}
-use Rattle.session.specs.Run.{Status, Setting, Turned, text_of_write}
+use Rattle.session.specs.Run.{Status, Setting, text_of_write}
 use Rattle.session.specs.Run.Status.{running, over}
 use Rattle.session.specs.Run.Turned.{idle_running, refused_line, quits, no_file, large_file, reads, writes}
-use Rattle.session.specs.Seen.{Into, LineDone, LineRan}
+use Rattle.session.specs.Seen.{Into, LineDone, LineRan, text_of}
+use Rattle.calculator.specs.Seen.{done_outcome}
+use Rattle.command.specs.declared.report.RefusedLine.{RefusedLine}
 use Rattle.session.proofs.Putting.{put_front}
 
 said : (x y : List ℕ) → text x ≡ text y → x ≡ y
 said x y e = cc
+
+pub refused_as : {A E : Type 0} {x : E} (r : Result A E) → IsErrAnd r (λ y. y ≡ x) → r ≡ Err x
+refused_as (Ok a) e = absurd e
+refused_as (Err y) e = ap Err e
 
 -- what a line has done, and its text put into the bytes given
 pub done_put : {at : Setting} {s t : Status} {l : Line} {words out out' : List ℕ} {r : Result ℕ Failure} → LineDone at s l t words → Into words out r out' → LineRan at s l t out r out'
@@ -49,20 +55,17 @@ module _ (at : Setting) (v : View) (l : Line) where
     pub file_missing : at.files k ≡ None → LineDone at (running v) l (running v) (report l.number Command (fault 52 0))
     file_missing e = record { events = []; turned = no_file asks e }
 
-    module _ (bytes : List ℕ) (e : at.files k ≡ Some bytes) where
+    module _ (bytes : List ℕ) (holds : at.files k ≡ Some bytes) where
       pub file_large : 8192 < length bytes → LineDone at (running v) l (running v) (report l.number Sheet (fault 23 0))
-      file_large long = record { events = []; turned = large_file asks e long }
+      file_large long = record { events = []; turned = large_file asks holds long }
 
       module _ (w : View) (few : length bytes ≤ 8192) where
-        pub read_done : Stepped v (event (reading k (sheet bytes)) at.working (accepted done)) w → LineDone at (running v) l (running w) []
-        read_done s = record { events = event (reading k (sheet bytes)) at.working (accepted done) ∷ []; turned = reads asks e few s }
-
-        pub read_refused : (f : Fault) (layer : Layer) → Stepped v (event (reading k (sheet bytes)) at.working (refused f)) w → layer ≡ layer_of f
-            → LineDone at (running v) l (running w) (report l.number layer f)
-        read_refused f layer s el = record {
-          events = event (reading k (sheet bytes)) at.working (refused f) ∷ [];
-          turned = subst (λ y. Turned at (running v) l (event (reading k (sheet bytes)) at.working (refused f) ∷ []) (running w) (report l.number y f)) (sym el) (reads asks e few s);
-        }
+        -- the text of a read is that of its refusal
+        pub read_ran : {A : Type 0} (r : Result A Refusal) (told : Result A RefusedLine) → Stepped v (event (reading k (sheet bytes)) at.working (done_outcome r)) w
+            → ((x : A) → r ≡ Ok x → told ≡ Ok x) → ((f : Refusal) → r ≡ Err f → told ≡ Err (record { line = l.number; layer = layer_of (fault_of f); refusal = f }))
+            → LineDone at (running v) l (running w) (text_of told)
+        read_ran (Ok x) told s taken back = rw (taken x refl) (record { events = _; turned = reads {o = accepted done} asks holds few s })
+        read_ran (Err f) told s taken back = rw (back f refl) (record { events = _; turned = reads {o = refused (fault_of f)} asks holds few s })
 
   module _ (out : List ℕ) (k : ℕ) (asks : asked_on false l.at l.bytes ≡ Ok (Some (print k))) where
     pub print_done : (m : ℕ) (out' : List ℕ) → length out' ≡ length out → m ≤ length out → drop m out' ≡ drop m out

@@ -1,4 +1,4 @@
-// One command line, run against a calculator.
+// The command lines after the first command, run on a desk: a calculator with all that it is lent.
 ghost use Rattle.std.specs.Prelude.{◌≡◌, ℕ, ◌≤◌, List, [], ◌∷◌, ◌++◌, map, length, IfOk, OnOk};
 ghost use Rattle.session.specs.Run.{Setting, printed};
 ghost use Rattle.life.specs.Call.{event};
@@ -25,11 +25,11 @@ use std::ops::ControlFlow;
 pub const MOST_SHEET_BYTES: usize = 8192;
 
 // What is refused on a line.
-pub(crate) fn refused_at(line: CommandLine, layer: Layer, refusal: Refusal) -> RefusedLine
-    ensures { result ≡ record { line = line.entry.number; layer = layer; refusal = refusal } }
+pub(crate) fn refused_at(line: usize, layer: Layer, refusal: Refusal) -> RefusedLine
+    ensures { result ≡ record { line = line; layer = layer; refusal = refusal } }
 {
     RefusedLine {
-        line: line.number,
+        line,
         layer,
         refusal,
     }
@@ -89,7 +89,7 @@ pub(crate) fn print_refused(
     Ok(output)
 }
 
-// Writes register k as a sheet; a desk has no way yet to lend one field as `&` and others as `&mut`.
+// Writes register k as a sheet. A function: the proof has no rule for lending one field of a desk as `&` and others as `&mut`.
 fn write<C: CubeNotation>(
     calculator: &mut Calculator,
     k: RegisterNumber,
@@ -116,45 +116,49 @@ pub struct Desk<'a, C> {
 
 impl<C: CubeNotation> Desk<'_, C> {
     ghost use Rattle.std.specs.Prelude.{Ok};
+    ghost use Rattle.std.specs.declared.ops.ControlFlow.TheVariants.{Continue};
     ghost use Rattle.cube.specs.Slots.{Cover};
     ghost use Rattle.command.specs.Asked.{asked};
     ghost use Rattle.command.specs.Asked.Asked.{read, print};
     ghost use Rattle.command.specs.Cut.{line_of};
+    ghost use Rattle.command.specs.Report.{layer_of};
+    ghost use Rattle.cube.specs.Refusals.{fault_of};
     ghost use Rattle.session.specs.Run.Status.{running};
     ghost use Rattle.session.specs.Seen.{LineDone, LineRan, text_of, printed_of, status_after};
-    ghost use Rattle.session.specs.Desk.{LaterAsks, IsKept, setting_at, seen};
+    ghost use Rattle.session.specs.Desk.{LaterAsks, RanOn, IsKept, setting_at, seen};
     ghost use Rattle.session.specs.Midway.{Midway, Finished};
     ghost use Rattle.command.specs.Cut.{lines_left};
     ghost use Rattle.command.specs.Lines.{Line};
 
     // Reads the file of register k; one that is too large for the console is no sheet.
-    fn read_line(&mut self, k: RegisterNumber, line: CommandLine) -> Result<(), RefusedLine>
+    fn read_register(&mut self, k: RegisterNumber, line: CommandLine) -> Result<(), RefusedLine>
         ensures done { (cells : Cover) → LaterAsks line.entry (read k.number.value) → LineDone (setting_at cells self.old) (running (seen C.slots self.old)) (line_of line.entry) (running (seen C.slots self.new)) (text_of result) }
         ensures page { self.new.page.now ≡ self.old.page.now }
         ensures kept { IsKept self.old self.new }
     {
         let Some(bytes) = self.files.sheet(k) else {
-            return Err(refused_at(line, Layer::Command, Refusal::NoSuchFile));
+            return Err(refused_at(line.number, Layer::Command, Refusal::NoSuchFile));
         };
         if bytes.len() > MOST_SHEET_BYTES {
-            return Err(refused_at(line, Layer::Sheet, Refusal::TextTooLong));
+            return Err(refused_at(line.number, Layer::Sheet, Refusal::TextTooLong));
         }
-        match self.calculator.read(k, bytes, self.table, self.working) {
-            Ok(()) => Ok(()),
-            Err(refusal) => Err(refused_at(line, Layer::of_call(refusal), refusal)),
-        }
+        self.calculator
+            .read(k, bytes, self.table, self.working)
+            .map_err(move |refusal|
+                ensures { result ≡ record { line = line.number; layer = layer_of (fault_of refusal); refusal = refusal } }
+            { refused_at(line.number, Layer::of_call(refusal), refusal) })
     }
 
     // Prints register k as a sheet.
-    fn print_line(&mut self, k: RegisterNumber, line: CommandLine) -> Result<usize, Failure>
-        ensures ran { (cells : Cover) → LaterAsks line.entry (print k.number.value) → LineRan (setting_at cells self.old) (running (seen C.slots self.old)) (line_of line.entry) (running (seen C.slots self.new)) self.old.page.now result self.new.page.now }
+    fn print_register(&mut self, k: RegisterNumber, line: CommandLine) -> Result<usize, Failure>
+        ensures ran { LaterAsks line.entry (print k.number.value) → RanOn C.slots self.old line.entry (Continue result) self.new }
         ensures kept { IsKept self.old self.new }
     {
         match write(self.calculator, k, self.table, self.page) {
             Ok(length) => Ok(length),
             Err(refusal) if refusal == Refusal::OutputTooShort => Err(Failure::Refused(refusal)),
             Err(refusal) => {
-                let refused = refused_at(line, Layer::of_call(refusal), refusal);
+                let refused = refused_at(line.number, Layer::of_call(refusal), refusal);
                 refuse(self.heap, refused, self.page)
             }
         }
@@ -166,34 +170,36 @@ impl<C: CubeNotation> Desk<'_, C> {
         command: Command,
         line: CommandLine,
     ) -> ControlFlow<(), Result<usize, Failure>>
-        ensures ran { (cells : Cover) → LaterAsks line.entry (asked command) → LineRan (setting_at cells self.old) (running (seen C.slots self.old)) (line_of line.entry) (status_after result (seen C.slots self.new)) self.old.page.now (printed_of result) self.new.page.now }
+        ensures ran { LaterAsks line.entry (asked command) → RanOn C.slots self.old line.entry result self.new }
         ensures kept { IsKept self.old self.new }
     {
         match command {
-            Command::Read { register } => match self.read_line(register, line) {
+            Command::Read { register } => match self.read_register(register, line) {
                 Ok(()) => ControlFlow::Continue(Ok(0)),
                 Err(refused) => ControlFlow::Continue(refuse(self.heap, refused, self.page)),
             },
-            Command::Print { register } => ControlFlow::Continue(self.print_line(register, line)),
+            Command::Print { register } => ControlFlow::Continue(self.print_register(register, line)),
             Command::Quit => ControlFlow::Break(()),
         }
     }
 
     /// Runs one line after the first command, and puts what it prints into the page; a `Break` ends the run.
     pub fn run_line(&mut self, line: CommandLine) -> ControlFlow<(), Result<usize, Failure>>
-        ensures ran { (cells : Cover) → LineRan (setting_at cells self.old) (running (seen C.slots self.old)) (line_of line.entry) (status_after result (seen C.slots self.new)) self.old.page.now (printed_of result) self.new.page.now }
+        ensures ran { RanOn C.slots self.old line.entry result self.new }
         ensures kept { IsKept self.old self.new }
     {
-        match parse_later(line) {
-            Ok(asked) => match asked {
-                Some(command) => self.run_command(command, line),
-                None => ControlFlow::Continue(Ok(0)),
-            },
+        let asked = match parse_later(line) {
+            Ok(asked) => asked,
             Err(refusal) => {
-                let refused = refused_at(line, Layer::Command, refusal);
-                ControlFlow::Continue(refuse(self.heap, refused, self.page))
+                let refused = refused_at(line.number, Layer::Command, refusal);
+                return ControlFlow::Continue(refuse(self.heap, refused, self.page));
             }
-        }
+        };
+        // `Ok(Some(command))` is not covered: a command holds a ghost field.
+        let Some(command) = asked else {
+            return ControlFlow::Continue(Ok(0));
+        };
+        self.run_command(command, line)
     }
 
     // Runs one line, appends what it printed, and tells whether the run goes on.

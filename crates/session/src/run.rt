@@ -57,14 +57,15 @@ impl Run {
 fn begin(line: CommandLine) -> Result<Option<Calculator>, RefusedLine>
     ensures { (at : Setting) (ls rest : List Line) → Midway at ls (line_of line.entry ∷ rest) waiting [] → Begins at ls result rest }
 {
+    // Two matches: with `map_err(..)?` the proof did not close, since it has to open what the closures give in five places.
     let variables = match parse_first(line) {
         Ok(Some(variables)) => variables,
         Ok(None) => return Ok(None),
-        Err(refusal) => return Err(refused_at(line, Layer::Command, refusal)),
+        Err(refusal) => return Err(refused_at(line.number, Layer::Command, refusal)),
     };
     match Shape::new(variables, PLACES) {
         Ok(shape) => Ok(Some(Calculator::new(shape))),
-        Err(refusal) => Err(refused_at(line, Layer::Calculator, refusal)),
+        Err(refusal) => Err(refused_at(line.number, Layer::Calculator, refusal)),
     }
 }
 
