@@ -118,22 +118,5 @@ print_too_long at v l out {out'} k f is room asks s same =
 
 -- no other refusal has that number
 pub not_too_short : (f : Refusal) → (f ≡ OutputTooShort → ⊥) → eqb (fault_of f).number 8 ≡ false
-not_too_short NoSuchRegister n = refl
-not_too_short NoSuchVariable n = refl
-not_too_short ShapeBeyondRange n = refl
-not_too_short TableTooShort n = refl
 not_too_short OutputTooShort n = absurd (n refl)
-not_too_short (ByteNotAllowed at) n = refl
-not_too_short (SixthDigit at) n = refl
-not_too_short (MinusWithoutDigit at) n = refl
-not_too_short TextTooLong n = refl
-not_too_short (NotTheVariables at) n = refl
-not_too_short (CubesBeyondRange at) n = refl
-not_too_short (LiteralsBeyondRange at) n = refl
-not_too_short (LiteralBeyondRange at) n = refl
-not_too_short (LiteralNotRising at) n = refl
-not_too_short (NumberTooMany at) n = refl
-not_too_short (EndsTooEarly at) n = refl
-not_too_short (NoSuchCommand at) n = refl
-not_too_short WrongNumberCount n = refl
-not_too_short NoSuchFile n = refl
+not_too_short _ n = refl
