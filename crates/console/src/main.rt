@@ -6,16 +6,17 @@ use cube::notation::CubeNotation;
 use positional::PositionalCube;
 use session::line::MOST_SHEET_BYTES;
 use session::page::PAGE_BYTES;
-use session::run::{MOST_COMMAND_BYTES, run_text};
+use session::run::{MOST_COMMAND_BYTES, PLACES, run_text};
 use std::alloc::Global;
 use std::fs;
 use std::io::{self, ErrorKind, Read, Write};
 
 const REGISTERS: u8 = 32;
 
-const REGISTER_CUBES: usize = 2048;
+const REGISTER_CUBES: usize = REGISTERS as usize * PLACES as usize;
 
-const WORKING_CUBES: usize = 4096;
+// A read works on twice as many.
+const WORKING_CUBES: usize = 2 * REGISTER_CUBES;
 
 // What a source holds, up to one byte more than `most`; none where it cannot be read.
 fn read_some<R: Read + Drop>(heap: Global, source: R, most: usize) -> io::Result<Option<Vec<u8>>> {

@@ -1,6 +1,6 @@
 -- A run goes on line by line.
-use Rattle.std.proofs.Common.{is_some, map, ControlFlow, Continue, Break, ◌≡◌, ℕ, ◌≤◌, true, List, [], ◌∷◌, ◌++◌, length, take, drop, IfOk, Some, None, Ok, Err, vec_items, Option, Result, sym, refl, ap, ◌∙◌, subst, append_assoc, append-nil, arith, length-append}
-use Rattle.std.proofs.lemmas.List.{take_at, nil_from_length}
+use Rattle.std.proofs.Common.{is_some, map, ControlFlow, Continue, Break, ◌≡◌, ℕ, ◌≤◌, true, List, [], ◌∷◌, ◌++◌, length, IfOk, Some, None, Ok, Err, vec_items, Option, Result, sym, refl, ap, ◌∙◌, subst, append_assoc, append-nil, arith, length-append}
+use Rattle.std.proofs.lemmas.List.{nil_from_length}
 use Rattle.std.proofs.lemmas.Bool.{cond-true, le-leb}
 use Rattle.cube.specs.Refusals.{Fault}
 use Rattle.cube.specs.Slots.{Cube, Cover}
@@ -8,7 +8,6 @@ use Rattle.life.specs.Call.{Event}
 use Rattle.life.specs.View.{View}
 use Rattle.command.specs.declared.report.Layer.{Layer}
 use Rattle.command.specs.Lines.{Line, lines_of}
-use Rattle.command.specs.Output.{Put}
 use Rattle.command.specs.Report.{report}
 use Rattle.calculator.specs.declared.calculator.Calculator.{Calculator}
 use Rattle.session.specs.declared.run.Run.{Run}

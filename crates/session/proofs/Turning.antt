@@ -1,7 +1,7 @@
 -- A line that was run, from what the calls that it made have shown.
 use Rattle.std.proofs.Common.{IsErrAnd, ◌≡◌, ℕ, ◌<◌, ◌≤◌, Bool, true, false, cond, eqb, List, [], ◌∷◌, length, take, drop, Some, None, Ok, Err, Option, Result, sym, refl, ap, subst, arith, ltb-true}
 use Rattle.cube.specs.declared.refusal.Refusal.{Refusal}
-use Rattle.cube.specs.declared.refusal.Refusal.TheVariants.{NoSuchRegister, NoSuchVariable, ShapeBeyondRange, TableTooShort, OutputTooShort, ByteNotAllowed, SixthDigit, MinusWithoutDigit, TextTooLong, NotTheVariables, CubesBeyondRange, LiteralsBeyondRange, LiteralBeyondRange, LiteralNotRising, NumberTooMany, EndsTooEarly, NoSuchCommand, WrongNumberCount, NoSuchFile}
+use Rattle.cube.specs.declared.refusal.Refusal.TheVariants.{OutputTooShort}
 use Rattle.cube.specs.Refusals.{Fault, fault, fault_of}
 use Rattle.sheet.specs.Writing.{write_sheet}
 use Rattle.life.specs.Call.{event}

@@ -144,9 +144,11 @@ impl<C: CubeNotation> Desk<'_, C> {
         }
         self.calculator
             .read(k, bytes, self.table, self.working)
-            .map_err(move |refusal|
-                ensures { result ≡ record { line = line.number; layer = layer_of (fault_of refusal); refusal = refusal } }
-            { refused_at(line.number, Layer::of_call(refusal), refusal) })
+            .map_err(
+                move |refusal|
+                    ensures { result ≡ record { line = line.number; layer = layer_of (fault_of refusal); refusal = refusal } }
+                { refused_at(line.number, Layer::of_call(refusal), refusal) },
+            )
     }
 
     // Prints register k as a sheet.
@@ -178,7 +180,10 @@ impl<C: CubeNotation> Desk<'_, C> {
                 Ok(()) => ControlFlow::Continue(Ok(0)),
                 Err(refused) => ControlFlow::Continue(refuse(self.heap, refused, self.page)),
             },
-            Command::Print { register } => ControlFlow::Continue(self.print_register(register, line)),
+            Command::Print { register } => {
+                let put = self.print_register(register, line);
+                ControlFlow::Continue(put)
+            }
             Command::Quit => ControlFlow::Break(()),
         }
     }
