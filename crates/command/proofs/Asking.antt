@@ -1,9 +1,7 @@
 -- What a line asks, from a place on.
-use Rattle.std.specs.Borrow.{Bor}
 use Rattle.std.specs.Result.{IsErrAnd}
-use Rattle.std.specs.Slice.{IsItemAt}
-use Rattle.std.proofs.Common.{◌≡◌, ℕ, ◌+◌, ◌<◌, ◌≤◌, min, Bool, true, false, cond, List, length, get_or, drop, Some, None, Ok, Err, Option, Result, sym, ap, ◌∙◌, ⊎_elim, arith}
-use Rattle.std.proofs.lemmas.List.{at_drop_more, at_drop_all}
+use Rattle.std.proofs.Common.{◌≡◌, ℕ, ◌+◌, ◌-◌, ◌<◌, ◌≤◌, min, Bool, true, false, cond, List, length, get_or, take, drop, None, Ok, Err, Option, Result, sym, ap, ◌∙◌, ⊎_elim, arith, length-drop}
+use Rattle.std.proofs.lemmas.List.{at_drop_more, at_drop_all, take_rest, drop_more}
 use Rattle.std.proofs.lemmas.Bool.{cases_lt, cond-true, cond-false}
 use Rattle.std.proofs.lemmas.Bool.Decides.{nat_tests}
 use Rattle.std.proofs.lemmas.Result.{err_from_is_err_and}
@@ -29,6 +27,13 @@ module _ (first : Bool) (xs : List ℕ) (p : ℕ) where
   gap_more : p < length xs → gap (get_or xs p 0) ≡ true → asked_on first p (drop p xs) ≡ asked_on first (p + 1) (drop (p + 1) xs)
   gap_more h e = at_drop_more (asked_on first p) xs p 0 h ∙ cond-true _ _ _ e
 
+-- the bytes from p on, as the code slices them
+abbrev pub rest : List ℕ → ℕ → List ℕ
+rest xs p = take (length xs - p) (drop p xs)
+
+length_rest : (xs : List ℕ) (p : ℕ) → length (rest xs p) ≡ length xs - p
+length_rest xs p = ap length (take_rest xs p) ∙ length-drop p xs
+
 -- the separators from `from` on end at p
 module _ (first : Bool) (xs : List ℕ) (from p : ℕ) (after : min from (length xs) ≤ p) (within : p ≤ length xs) (stopped : p < length xs → kind (get_or xs p 0) ≡ Separator → ⊥) (passed : (k : ℕ) → from + k < p → kind (get_or xs (from + k) 0) ≡ Separator) where
   past_gaps : asked_on first from (drop from xs) ≡ asked_on first p (drop p xs)
@@ -39,20 +44,24 @@ module _ (first : Bool) (xs : List ℕ) (from p : ℕ) (after : min from (length
       (cases_lt from (length xs))
 
   -- nothing stands after them
-  pub idle : IsItemAt {X = ℕ} xs p None → asked_on first from (drop from xs) ≡ Ok None
-  idle none = past_gaps ∙ no_letter first xs p none.3
+  pub idle : length (rest xs p) ≤ 0 → asked_on first from (drop from xs) ≡ Ok None
+  idle none = past_gaps ∙ no_letter first xs p (omega (arith, length_rest xs p))
 
-  -- the letter b stands after them
-  module _ (b : ℕ) (letter : Bor ℕ) (at : IsItemAt xs p (Some letter)) (is : b ≡ letter.now) where
-    at_letter : asked_on first from (drop from xs) ≡ cond (admitted first b) (with_numbers b (numbers_in (tokens_from xs (p + 1)))) (Err (fault 50 p))
+  -- the letter b stands after them, and the rest begins one place later
+  module _ (b : ℕ) (some : 1 ≤ length (rest xs p)) (is : b ≡ get_or (rest xs p) 0 0) where
+    at_letter : asked_on first from (drop from xs) ≡ cond (admitted first b) (with_numbers b (numbers_in (tokens_from xs (length xs - length (rest (rest xs p) 1))))) (Err (fault 50 p))
     at_letter =
+        let h : p < length xs = omega (arith, length_rest xs p) in
+        let next : p + 1 ≡ length xs - length (rest (rest xs p) 1) = omega (arith, length_rest xs p, length_rest (rest xs p) 1) in
+        let here : get_or xs p 0 ≡ b = sym (is ∙ ap (λ l. get_or l 0 0) (take_rest xs p ∙ drop_more xs p 0 h)) in
         past_gaps
-        ∙ at_drop_more (asked_on first p) xs p 0 at.3.0
-        ∙ cond-false _ _ _ (no_gap (get_or xs p 0) (stopped at.3.0))
-        ∙ ap (λ l. cond (admitted first l) (with_numbers l (numbers_in (tokens_from xs (p + 1)))) (Err (fault 50 p))) (sym (is ∙ at.3.1 0))
+        ∙ at_drop_more (asked_on first p) xs p 0 h
+        ∙ cond-false _ _ _ (no_gap (get_or xs p 0) (stopped h))
+        ∙ ap (λ l. cond (admitted first l) (with_numbers l (numbers_in (tokens_from xs (p + 1)))) (Err (fault 50 p))) here
+        ∙ ap (λ n. cond (admitted first b) (with_numbers b (numbers_in (tokens_from xs n))) (Err (fault 50 p))) next
 
     -- and may begin a command
-    pub begun : true ≡ admitted first b → asked_on first from (drop from xs) ≡ with_numbers b (numbers_in (tokens_from xs (p + 1)))
+    pub begun : true ≡ admitted first b → asked_on first from (drop from xs) ≡ with_numbers b (numbers_in (tokens_from xs (length xs - length (rest (rest xs p) 1))))
     begun may = at_letter ∙ cond-true _ _ _ (sym may)
 
     -- and may not

@@ -45,15 +45,17 @@ fn parse_as<T, A: FnOnce(char) -> bool, F: FnOnce(char, &[i32]) -> Result<T, Ref
 {
     let text = line.text;
     let at = past_separators(text, line.start);
-    let Some(letter) = text.get(at) else {
-        return Ok(None);
-    };
-    let letter = char::from(*letter);
-    if !admits(letter) {
-        return Err(Refusal::NoSuchCommand { at });
+    match &text[at..] {
+        [] => Ok(None),
+        [letter, rest @ ..] => {
+            let letter = char::from(*letter);
+            if !admits(letter) {
+                return Err(Refusal::NoSuchCommand { at });
+            }
+            let numbers = numbers_from(text, text.len() - rest.len())?;
+            Ok(Some(ask(letter, numbers.as_slice())?))
+        }
     }
-    let numbers = numbers_from(text, at + 1)?;
-    Ok(Some(ask(letter, numbers.as_slice())?))
 }
 
 /// The number that the first command asks for; nothing where the line has separators alone.
