@@ -2,7 +2,7 @@
 // `Display` does not serve: what std's formatting promises of a failed write is not enough to say when a sheet is refused.
 ghost use Rattle.std.specs.Prelude.{◌≡◌, map, length, take};
 ghost use Rattle.cube.specs.Slots.{blank_above};
-ghost use Rattle.text.specs.Output.{Lays, Laid};
+ghost use Rattle.text.specs.Output.{Lays, Overlaid};
 ghost use Rattle.sheet.specs.Writing.{filled, write_literal, write_literals, write_cube, write_cubes, write_sheet, Writes, Exact};
 ghost use Rattle.sheet.specs.Trip.{Wrote, Returns};
 
@@ -75,7 +75,7 @@ fn put_cubes<C: CubeNotation>(shape: Shape, cubes: &[C], writer: &mut Writer)
 
 // Lays the sheet over `out` as far as this goes, and returns how long it is.
 fn put_sheet<C: CubeNotation>(shape: Shape, cubes: &[C], out: &mut [u8]) -> usize
-    ensures { Laid out.old 0 (write_sheet shape.variables.value (map (blank_above shape.variables.value) (map C.slots cubes.now))) result out.new }
+    ensures { Overlaid out.old 0 (write_sheet shape.variables.value (map (blank_above shape.variables.value) (map C.slots cubes.now))) result out.new }
 {
     let mut sheet = Writer::new(out);
     sheet.put_number(shape.variables());

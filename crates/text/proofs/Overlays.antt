@@ -2,7 +2,7 @@
 use Rattle.std.proofs.Common.{◌≡◌, ℕ, suc, ◌+◌, ◌-◌, ◌^◌, ◌<◌, ◌≤◌, min, List, [], ◌∷◌, ◌++◌, length, drop, set, sym, refl, ap, ◌∙◌, subst, ⊎_elim, add-zero, arith, length-append}
 use Rattle.std.proofs.lemmas.Bool.{cases_lt}
 use Rattle.std.proofs.lemmas.List.{set_past}
-use Rattle.text.specs.Output.{overlay, Laid, Lays}
+use Rattle.text.specs.Output.{overlay, Overlaid, Lays}
 use Rattle.text.specs.declared.output.Writer.{Writer}
 
 pub overlay_append : (out : List ℕ) (at : ℕ) (xs ys : List ℕ) → overlay out at (xs ++ ys) ≡ overlay (overlay out at xs) (at + length xs) ys
@@ -34,7 +34,7 @@ overlay_counted out at xs h =
     (λ ge. overlay_past out (min (2 ^ 64 - 1) at) xs (omega arith) ∙ sym (overlay_past out at xs (omega arith)))
     (cases_lt at (2 ^ 64))
 
-pub laid_front : {out text out' : List ℕ} {r : ℕ} → Laid out 0 text r out' → length text ≤ length out → length out < 2 ^ 64 → (r ≡ length text) × (out' ≡ text ++ drop r out)
+pub laid_front : {out text out' : List ℕ} {r : ℕ} → Overlaid out 0 text r out' → length text ≤ length out → length out < 2 ^ 64 → (r ≡ length text) × (out' ≡ text ++ drop r out)
 laid_front {out} {text} {out'} {r} l h few =
     let e : r ≡ length text = omega (arith, l.place) in
     (e, l.over ∙ overlay_fits out text h ∙ ap (λ k. text ++ drop k out) (sym e))

@@ -8,11 +8,11 @@ overlay out at [] = out
 overlay out at (b ∷ bs) = overlay (slice_set out at b) (at + 1) bs
 
 -- out' is out with the text laid over it from at on, which ends at r, or at the last place that is counted
-pub record Laid (out : List ℕ) (at : ℕ) (text : List ℕ) (r : ℕ) (out' : List ℕ) : Type 0 where
+pub record Overlaid (out : List ℕ) (at : ℕ) (text : List ℕ) (r : ℕ) (out' : List ℕ) : Type 0 where
   pub place : r ≡ min (2 ^ 64 - 1) (at + length text)
   pub over : out' ≡ overlay out at text
 
 -- the text was written, over the same lent bytes
 pub record Lays (old : Writer) (text : List ℕ) (new : Writer) : Type 0 where
   pub same_reference : new.out.ghost_name ≡ old.out.ghost_name
-  pub laid : Laid old.out.now old.end text new.end new.out.now
+  pub laid : Overlaid old.out.now old.end text new.end new.out.now
