@@ -30,6 +30,7 @@ pub record IsKept {C : Type 0} (old new : Desk C) : Type 0 where
   pub table : new.table.ghost_name ≡ old.table.ghost_name
   pub working : new.working.ghost_name ≡ old.working.ghost_name
   pub page : new.page.ghost_name ≡ old.page.ghost_name
+  pub table_length : length new.table.now ≡ length old.table.now
   pub working_length : length new.working.now ≡ length old.working.now
   pub page_length : length new.page.now ≡ length old.page.now
 
