@@ -53,7 +53,7 @@ pub fn told<T>(answer: Result<T, Refusal>) -> Result<T, (u8, usize)> {
     answer.map_err(|refusal| (refusal.number(), refusal.offset()))
 }
 
-/// What a row expects: this answer where its number is 0, and else a refusal with that number and offset.
+/// What a row expects: this answer, or a refusal with that number, as a host sees it, and offset; 0 stands for none.
 pub fn expected<T: Copy>(answer: T, number: u8, offset: usize) -> Result<T, (u8, usize)> {
     match number {
         0 => Ok(answer),

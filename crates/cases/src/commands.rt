@@ -258,19 +258,14 @@ fn check_text<C: CubeNotation>(
 fn check_texts<C: CubeNotation>(rt: &impl Abort, heap: Global) -> Result<(), Fail> {
     let files = folder(heap)?;
     let mut tables = Tables::new(heap, C::blank(), 2048, 4096)?;
+    let mut check = |text: &[u8], output: &str| {
+        check_text(rt, heap, &files, &mut tables, &mut [0; 99], text, output)
+    };
     for &(text, output) in &TEXTS {
-        check_text(
-            rt,
-            heap,
-            &files,
-            &mut tables,
-            &mut [0; 99],
-            text.as_bytes(),
-            output,
-        )?;
+        check(text.as_bytes(), output)?;
     }
     for &(bytes, output) in &BYTES {
-        check_text(rt, heap, &files, &mut tables, &mut [0; 99], bytes, output)?;
+        check(bytes, output)?;
     }
     Ok(())
 }

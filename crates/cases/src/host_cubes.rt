@@ -116,39 +116,58 @@ fn calculator_of_a_cube<C: CubeNotation>(heap: Global) -> Result<Calculator, Fai
         .map_err(|_| Fail::new("the read was refused"))
 }
 
-#[test]
-fn any_word_is_a_cube(rt: HostRuntime) -> Result<(), Fail> {
-    let mut calculator = calculator_of_a_cube::<PositionalCube>(rt.alloc())?;
-    for &(word, written) in &WORDS {
-        let mut table = [PositionalCube::blank(); 128];
-        table[12] = PositionalCube::from(word);
-        check_written(&rt, &mut calculator, &table, written, written);
+// Each row says a cube, put at the first place of register 3, and the sheet that is written of it.
+fn check_cubes<'a, R: Copy, C: CubeNotation, F: Fn(R) -> (C, &'a str)>(
+    rt: &impl Abort,
+    heap: Global,
+    rows: &[R],
+    case: F,
+) -> Result<(), Fail>
+    requires { F.IsAlwaysCallable case }
+{
+    let mut calculator = calculator_of_a_cube::<C>(heap)?;
+    for row in rows {
+        let (cube, written) = case(*row);
+        let mut table = vec![in heap; C::blank(); 128]?;
+        table[12] = cube;
+        check_written(rt, &mut calculator, &table, written, written);
     }
     Ok(())
 }
 
 #[test]
+fn any_word_is_a_cube(rt: HostRuntime) -> Result<(), Fail> {
+    check_cubes(&rt, rt.alloc(), &WORDS, |(word, written)| {
+        (PositionalCube::from(word), written)
+    })
+}
+
+#[test]
 fn any_pair_is_a_cube(rt: HostRuntime) -> Result<(), Fail> {
-    let mut calculator = calculator_of_a_cube::<MinMaxCube>(rt.alloc())?;
-    for &(min, max, written) in &PAIRS {
-        let mut table = [MinMaxCube::blank(); 128];
-        table[12] = MinMaxCube::from_bounds(min, max);
-        check_written(&rt, &mut calculator, &table, written, written);
-    }
-    Ok(())
+    check_cubes(&rt, rt.alloc(), &PAIRS, |(min, max, written)| {
+        (MinMaxCube::from_bounds(min, max), written)
+    })
 }
 
 // No read makes this word.
 const MARK: u64 = u64::MAX;
 
-// The first place without the mark, 0 where there is none, and how many places are without it.
-fn unmarked(table: &[PositionalCube]) -> (usize, usize) {
+// The first place without the mark, and how many places are without it.
+fn unmarked(table: &[PositionalCube]) -> (Option<usize>, usize) {
     let first = table.iter().position(|cube| u64::from(*cube) != MARK);
     let count = table
         .iter()
         .filter(|cube| u64::from(**cube) != MARK)
         .count();
-    (first.unwrap_or(0), count)
+    (first, count)
+}
+
+// What a row says: its first place stands for none where it counts no place.
+fn changed(first: usize, count: usize) -> (Option<usize>, usize) {
+    match count {
+        0 => (None, 0),
+        _ => (Some(first), count),
+    }
 }
 
 // Reads one text and then another into register 3.
@@ -175,7 +194,12 @@ fn reads_change_their_own_places_alone(rt: HostRuntime) -> Result<(), Fail> {
         let Ok(mut calculator) = read_both(before, text, &mut tables) else {
             return Err(Fail::new("the read was refused"));
         };
-        assert_eq!(rt; unmarked(&tables.registers), (first, count), "{}", text);
+        assert_eq!(rt;
+            unmarked(&tables.registers),
+            changed(first, count),
+            "{}",
+            text
+        );
         check_written(&rt, &mut calculator, &tables.registers, after, text);
     }
     Ok(())

@@ -57,12 +57,13 @@ fn check_room<C: CubeNotation>(
     let &(n, k, sheet, written) = row;
     let mut out = [OLD; MOST];
     let mut want = [OLD; MOST];
-    let mut answer = Err(8);
     assert!(rt; room <= MOST);
-    if written.len() <= room {
-        answer = Ok(written.len());
+    let answer = if written.len() <= room {
         want[0..written.len()].copy_from_slice(written.as_bytes());
-    }
+        Ok(written.len())
+    } else {
+        Err(8)
+    };
     let seen = copied(tables, n, k, sheet, &mut out[0..room]);
     assert_eq!(rt; seen, answer, "{}", sheet);
     assert_eq!(rt; out, want, "{}", sheet);

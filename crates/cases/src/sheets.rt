@@ -126,22 +126,21 @@ fn check_text<C: CubeNotation>(
     rt: &impl Abort,
     tables: &mut Tables<C>,
     text: &[u8],
-    wanted: Result<(), (u8, usize)>,
+    number: u8,
+    offset: usize,
     row: &str,
 ) {
     let said = told(tables.read(3, 2, text)).map(|_| ());
-    assert_eq!(rt; said, wanted, "{}", row);
+    assert_eq!(rt; said, expected((), number, offset), "{}", row);
 }
 
 fn check_sheets<C: CubeNotation>(rt: &impl Abort, heap: Global) -> Result<(), Fail> {
     let mut tables = Tables::new(heap, C::blank(), 128, 256)?;
     for &(text, number, offset) in &SHEETS {
-        let wanted = expected((), number, offset);
-        check_text(rt, &mut tables, text.as_bytes(), wanted, text);
+        check_text(rt, &mut tables, text.as_bytes(), number, offset, text);
     }
     for &(bytes, number, offset) in &BYTES {
-        let wanted = expected((), number, offset);
-        check_text(rt, &mut tables, bytes, wanted, "no text");
+        check_text(rt, &mut tables, bytes, number, offset, "no text");
     }
     Ok(())
 }
@@ -162,7 +161,7 @@ fn lengths_are_judged_before_the_text(rt: HostRuntime) -> Result<(), Fail> {
     for &(cubes, room, row, length, number, offset) in &LENGTHS {
         let text = padded(heap, b' ', row.as_bytes(), length)?;
         let mut tables = Tables::new(heap, PositionalCube::blank(), cubes, room)?;
-        check_text(&rt, &mut tables, &text, expected((), number, offset), row);
+        check_text(&rt, &mut tables, &text, number, offset, row);
     }
     Ok(())
 }
