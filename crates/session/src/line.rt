@@ -1,12 +1,12 @@
 // The command lines after the first command, run on a desk: a calculator with all that it is lent.
-ghost use Rattle.std.specs.Prelude.{◌≡◌, ℕ, ◌≤◌, List, [], ◌∷◌, ◌++◌, map, length, IfOk, OnOk};
+ghost use Rattle.std.specs.Prelude.{◌≡◌, ℕ, ◌≤◌, List, [], ◌∷◌, ◌++◌, map, length, IfOk, Ok, OnOk};
 ghost use Rattle.session.specs.Run.{Setting, printed};
 ghost use Rattle.life.specs.Call.{event};
 ghost use Rattle.life.specs.Call.Call.{write as writing};
 ghost use Rattle.life.specs.View.{Stepped};
 ghost use Rattle.calculator.specs.Seen.{view, text_outcome};
 ghost use Rattle.calculator.specs.Kept.{Put};
-ghost use Rattle.session.specs.Seen.{report_of, Into};
+ghost use Rattle.session.specs.Seen.{report_of, Into, LineDone, text_of, status_after};
 
 use crate::failure::Failure;
 use calculator::calculator::Calculator;
@@ -115,19 +115,16 @@ pub struct Desk<'a, C> {
 }
 
 impl<C: CubeNotation> Desk<'_, C> {
-    ghost use Rattle.std.specs.Prelude.{Ok};
     ghost use Rattle.std.specs.declared.ops.ControlFlow.TheVariants.{Continue};
     ghost use Rattle.cube.specs.Slots.{Cover};
     ghost use Rattle.command.specs.Asked.{asked};
     ghost use Rattle.command.specs.Asked.Asked.{read, print};
-    ghost use Rattle.command.specs.Cut.{line_of};
+    ghost use Rattle.command.specs.Cut.{line_of, lines_left};
     ghost use Rattle.command.specs.Report.{layer_of};
     ghost use Rattle.cube.specs.Refusals.{fault_of};
     ghost use Rattle.session.specs.Run.Status.{running};
-    ghost use Rattle.session.specs.Seen.{LineDone, LineRan, text_of, printed_of, status_after};
     ghost use Rattle.session.specs.Desk.{LaterAsks, RanOn, IsKept, setting_at, seen};
     ghost use Rattle.session.specs.Midway.{Midway, Finished};
-    ghost use Rattle.command.specs.Cut.{lines_left};
     ghost use Rattle.command.specs.Lines.{Line};
 
     // Reads the file of register k; one that is too large for the console is no sheet.
