@@ -57,7 +57,7 @@ impl Run {
 fn begin(line: CommandLine) -> Result<Option<Calculator>, RefusedLine>
     ensures { (at : Setting) (ls rest : List Line) → Midway at ls (line_of line.entry ∷ rest) waiting [] → Begins at ls result rest }
 {
-    // Two matches: with `map_err(..)?` the proof did not close, since it has to open what the closures give in five places.
+    // Two matches: of a closure under `map_err` a proof knows what an `ensures` of its own says, which is longer than these arms.
     let variables = match parse_first(line) {
         Ok(Some(variables)) => variables,
         Ok(None) => return Ok(None),
