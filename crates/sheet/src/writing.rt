@@ -45,7 +45,7 @@ fn count_literals<C: CubeNotation>(shape: Shape, cube: C) -> usize
     count
 }
 
-// The literals of the shape's variables.
+// The literals of the shape's variables, in a second walk: a cube's line begins with how many there are.
 // Here and below shape, cubes and writer stay parameters: as fields of a struct they are named longer in each contract, which would say besides that the shape stays.
 fn put_literals<C: CubeNotation>(shape: Shape, cube: C, writer: &mut Writer)
     ensures { Lays writer.old (write_literals 1 (take shape.variables.value (C.slots cube))) writer.new }
