@@ -104,6 +104,7 @@ fn write<C: CubeNotation>(
 }
 
 /// A calculator at work: the files of its registers, the tables that it is lent, and the bytes for the text of a line.
+// Slices, and a number for how much of the page a line fills: the host lends the tables and the page, by a rule of the project.
 #[derive(Drop)]
 pub struct Desk<'a, C> {
     pub heap: Global,
