@@ -5,8 +5,8 @@ ghost use Rattle.life.specs.View.{of_count};
 use crate::register::RegisterNumber;
 use std::marker::Model;
 
-// A type and a test need a constant; clauses say 32, as the definitions do.
-pub(crate) const REGISTERS: usize = 32;
+/// How many registers a calculator has; clauses say 32, as the definitions do.
+pub const REGISTERS: usize = 32;
 
 /// What a calculator keeps of one register.
 #[derive(Clone, Copy)]
@@ -46,7 +46,8 @@ impl Record {
     }
 }
 
-/// The library has no heap, so the cubes stand in a table that the host lends at each call, and a record has their number alone.
+/// The records of the 32 registers.
+// An array, since the library has no heap; the cubes stand in a table that the host lends at each call.
 #[derive(Clone, Copy)]
 pub struct Registers {
     records: [Record; REGISTERS],

@@ -47,15 +47,15 @@ static SHAPES: [(i32, i32, u8); 14] = [
 ];
 
 fn variable(number: i32) -> Result<i32, (u8, usize)> {
-    told(VariableNumber::try_from(number)).map(|v| v.number() as i32)
+    told(VariableNumber::try_from(number)).map(|v| i32::from(v.number()))
 }
 
 fn register(number: i32) -> Result<i32, (u8, usize)> {
-    told(RegisterNumber::try_from(number)).map(|k| k.number() as i32)
+    told(RegisterNumber::try_from(number)).map(|k| i32::from(k.number()))
 }
 
 fn shape(variables: i32, places: i32) -> Result<(i32, i32), (u8, usize)> {
-    told(Shape::new(variables, places)).map(|s| (s.variables() as i32, s.places() as i32))
+    told(Shape::new(variables, places)).map(|s| (i32::from(s.variables()), i32::from(s.places())))
 }
 
 #[test]

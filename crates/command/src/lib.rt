@@ -1,4 +1,4 @@
-// What the console does, as functions on values: command lines are parsed and run, and what they print is put into bytes.
+// What the console parses and prints, as functions on values: command lines, and the line of a refusal put into bytes.
 #![tactic(auto)]
 
 pub mod files;

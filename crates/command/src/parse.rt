@@ -1,8 +1,9 @@
 // A command line as a value: a letter, and the numbers after it.
-ghost use Rattle.std.specs.Prelude.{◌≡◌, ◌≤◌, Bool, true, false, length, drop};
+ghost use Rattle.std.specs.Prelude.{◌≡◌, ◌≤◌, Bool, true, false, length};
 ghost use Rattle.text.specs.Tokens.{tokens_from};
-ghost use Rattle.command.specs.Asked.{Admits, Asked, Asks, admitted, answered, asked, asked_by, asked_on, first_parsed, numbers_in, parsed, parsed_as};
+ghost use Rattle.command.specs.Asked.{Admits, Asked, Asks, admitted, answered, asked, asked_by, first_parsed, numbers_in, parsed, parsed_as};
 ghost use Rattle.command.specs.Counted.{first_two, two_held};
+ghost use Rattle.command.specs.Cut.{line_asks};
 
 use crate::lines::CommandLine;
 use arrayvec::ArrayVec;
@@ -33,7 +34,7 @@ fn numbers_from(text: &[u8], start: usize) -> Result<ArrayVec<i32, 2>, Refusal>
     Ok(numbers)
 }
 
-// What a line asks, by which letters may begin it, and what such a letter asks with the first two numbers after it.
+// Parses a line: `admits` tells which letters may begin it, and `ask` what a letter asks with the first two numbers after it.
 fn parse_as<T, A: FnOnce(char) -> bool, F: FnOnce(char, &[i32]) -> Result<T, Refusal>>(
     line: CommandLine,
     admits: A,
@@ -41,7 +42,7 @@ fn parse_as<T, A: FnOnce(char) -> bool, F: FnOnce(char, &[i32]) -> Result<T, Ref
 ) -> Result<Option<T>, Refusal>
     requires admits { A.IsAlwaysCallable admits }
     requires asks { F.IsAlwaysCallable ask }
-    ensures { (first : Bool) (see : T → Asked) → Admits A.post admits first → Asks F.post ask first see → parsed_as see result ≡ asked_on first line.entry.start (drop line.entry.start line.entry.text.now) }
+    ensures { (first : Bool) (see : T → Asked) → Admits A.post admits first → Asks F.post ask first see → parsed_as see result ≡ line_asks first line.entry }
 {
     let text = line.text;
     let at = past_separators(text, line.start);
@@ -60,7 +61,7 @@ fn parse_as<T, A: FnOnce(char) -> bool, F: FnOnce(char, &[i32]) -> Result<T, Ref
 
 /// The number that the first command asks for; nothing where the line has separators alone.
 pub fn parse_first(line: CommandLine) -> Result<Option<i32>, Refusal>
-    ensures { first_parsed result ≡ asked_on true line.entry.start (drop line.entry.start line.entry.text.now) }
+    ensures { first_parsed result ≡ line_asks true line.entry }
 {
     parse_as(
         line,
@@ -90,7 +91,7 @@ fn command_of(letter: char, numbers: &[i32]) -> Result<Command, Refusal>
 
 /// What a line after the first command asks; nothing where it has separators alone.
 pub fn parse_later(line: CommandLine) -> Result<Option<Command>, Refusal>
-    ensures { parsed result ≡ asked_on false line.entry.start (drop line.entry.start line.entry.text.now) }
+    ensures { parsed result ≡ line_asks false line.entry }
 {
     parse_as(
         line,

@@ -39,7 +39,7 @@ impl fmt::Display for Layer {
     }
 }
 
-/// A refused line: its number from 1, who refused, and why.
+/// A refused line: its number from 1, or 0 for a whole text, who refused, and why.
 #[derive(Clone, Copy, PartialEq, Eq, Debug)]
 pub struct RefusedLine {
     pub line: usize,

@@ -1,6 +1,7 @@
 // The console: a command text from standard input, sheets from the working folder, and what is printed to standard output.
 #![tactic(auto)]
 
+use calculator::registers::REGISTERS;
 use command::files::Files;
 use cube::notation::CubeNotation;
 use positional::PositionalCube;
@@ -11,9 +12,7 @@ use std::alloc::Global;
 use std::fs;
 use std::io::{self, ErrorKind, Read, Write};
 
-const REGISTERS: u8 = 32;
-
-const REGISTER_CUBES: usize = REGISTERS as usize * PLACES as usize;
+const REGISTER_CUBES: usize = REGISTERS * PLACES as usize;
 
 // A read works on twice as many.
 const WORKING_CUBES: usize = 2 * REGISTER_CUBES;
@@ -30,7 +29,7 @@ fn read_some<R: Read + Drop>(heap: Global, source: R, most: usize) -> io::Result
 }
 
 // The file of register k, if there is one that can be read.
-fn read_sheet_file(rt: &HostRuntime, k: u8) -> io::Result<Option<Vec<u8>>> {
+fn read_sheet_file(rt: &HostRuntime, k: usize) -> io::Result<Option<Vec<u8>>> {
     let name = format!(in rt.alloc(); "{k}.pcn")?;
     match fs::open(rt, name.as_str()) {
         Ok(file) => read_some(rt.alloc(), file, MOST_SHEET_BYTES),

@@ -1,11 +1,11 @@
 -- How a calculator at work is seen in a run.
-use Rattle.std.specs.Prelude.{◌≡◌, ℕ, map, length, drop, false, Some, Ok, Result, ⊤}
+use Rattle.std.specs.Prelude.{◌≡◌, ℕ, map, length, false, Some, Ok, Result, ⊤}
 use Rattle.std.specs.declared.ops.ControlFlow.{ControlFlow}
 use Rattle.cube.specs.Slots.{Cube, Cover}
 use Rattle.calculator.specs.Seen.{view}
 use Rattle.command.specs.declared.lines.CommandLine.{CommandLine}
-use Rattle.command.specs.Asked.{Asked, asked_on}
-use Rattle.command.specs.Cut.{line_of}
+use Rattle.command.specs.Asked.{Asked}
+use Rattle.command.specs.Cut.{line_of, line_asks}
 use Rattle.life.specs.View.{View}
 use Rattle.session.specs.declared.line.Desk.{Desk}
 use Rattle.session.specs.declared.failure.Failure.{Failure}
@@ -15,7 +15,7 @@ use Rattle.session.specs.Seen.{setting, LineRan, printed_of, status_after}
 
 -- a line after the first command asks this
 abbrev pub LaterAsks : CommandLine → Asked → Type 0
-LaterAsks line a = asked_on false line.start (drop line.start line.text.now) ≡ Ok (Some a)
+LaterAsks line a = line_asks false line ≡ Ok (Some a)
 
 abbrev pub setting_at : {C : Type 0} → Cover → Desk C → Setting
 setting_at cells d = setting d.files.now cells (length d.working.now) (length d.page.now)

@@ -24,7 +24,7 @@ use std::ops::ControlFlow;
 /// The most bytes of a sheet that the console takes.
 pub const MOST_SHEET_BYTES: usize = 8192;
 
-// What is refused on a line.
+// A refused line. A function, whose clause a proof can cite where a closure makes one.
 pub(crate) fn refused_at(line: usize, layer: Layer, refusal: Refusal) -> RefusedLine
     ensures { result ≡ record { line = line; layer = layer; refusal = refusal } }
 {
@@ -51,6 +51,7 @@ pub fn refuse(heap: Global, refused: RefusedLine, out: &mut [u8]) -> Result<usiz
 }
 
 // Appends what a line printed, or 8 where its text was longer than the bytes given.
+// `put` tells how much of the page is filled: the page is lent, so its length stands beside it.
 fn append(
     heap: Global,
     output: &mut Vec<u8>,
@@ -64,18 +65,14 @@ fn append(
     match put {
         Ok(size) => output.extend_from_slice(&page[..size]),
         Err(Failure::Refused(_)) => {
-            let too_long = RefusedLine {
-                line,
-                layer: Layer::Calculator,
-                refusal: Refusal::OutputTooShort,
-            };
+            let too_long = refused_at(line, Layer::Calculator, Refusal::OutputTooShort);
             output.extend_from_slice(&told(heap, too_long)?)
         }
         Err(Failure::OutOfMemory) => Err(AllocError),
     }
 }
 
-// What is printed of a refused line alone.
+// What is printed of a refused line alone, before there is a desk to hold the heap and the page.
 pub(crate) fn print_refused(
     heap: Global,
     refused: RefusedLine,
@@ -104,7 +101,7 @@ fn write<C: CubeNotation>(
 }
 
 /// A calculator at work: the files of its registers, the tables that it is lent, and the bytes for the text of a line.
-// Slices, and a number for how much of the page a line fills: the host lends the tables and the page, by a rule of the project.
+// Slices: the host lends the tables and the page, by a rule of the project.
 #[derive(Drop)]
 pub struct Desk<'a, C> {
     pub heap: Global,
@@ -198,7 +195,7 @@ impl<C: CubeNotation> Desk<'_, C> {
                 return ControlFlow::Continue(refuse(self.heap, refused, self.page));
             }
         };
-        // `Ok(Some(command))` is not covered: a command holds a ghost field.
+        // The proof has no rule for the pattern `Ok(Some(command))`, since a command holds a ghost field.
         let Some(command) = asked else {
             return ControlFlow::Continue(Ok(0));
         };

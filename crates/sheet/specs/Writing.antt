@@ -1,10 +1,14 @@
 -- The text of a sheet, and what a writer leaves.
-use Rattle.std.specs.Prelude.{◌≡◌, ℕ, suc, ◌+◌, ◌<◌, ◌≤◌, ◌⊎◌, List, [], ◌∷◌, ◌++◌, length, drop, Ok, Err, decimal, Result}
+use Rattle.std.specs.Prelude.{◌≡◌, ℕ, suc, ◌+◌, ◌<◌, ◌≤◌, ◌⊎◌, List, [], ◌∷◌, ◌++◌, map, length, drop, Ok, Err, decimal, Result}
 use Rattle.cube.specs.declared.refusal.Refusal.{Refusal}
 use Rattle.cube.specs.declared.slot.Slot.{Slot}
 use Rattle.cube.specs.declared.slot.Slot.TheVariants.{No, Yes, Blank}
 use Rattle.cube.specs.Refusals.{fault, fault_of}
-use Rattle.cube.specs.Slots.{Cube, Cover}
+use Rattle.cube.specs.Slots.{Cube, Cover, blank_above}
+
+-- cubes as a sheet over n variables shows them: their slots above n are taken as Blank
+abbrev pub blanked : {C : Type 0} → ℕ → (C → Cube) → List C → Cover
+blanked n slots cubes = map (blank_above n) (map slots cubes)
 
 -- how many slots are not Blank
 abbrev pub filled : Cube → ℕ

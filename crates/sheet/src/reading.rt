@@ -86,7 +86,7 @@ fn step(shape: Shape, state: ReaderState, token: Token) -> Step
 }
 
 // Line 1 holds the number of variables.
-// Here and below a numeral and its offset stay two parameters, as the public `Token::Number` holds them.
+// A numeral and its offset stay two parameters, here and below: as fields of a struct each contract would name them longer.
 fn on_line_1(shape: Shape, numeral: Numeral, at: usize) -> Step
     ensures { told result ≡ step_of shape.variables.value shape.places.value ReaderState.BeforeLine1 (num numeral.entry.text.now at) }
 {
@@ -186,6 +186,7 @@ fn read_within<C: CubeNotation>(shape: Shape, text: &[u8], out: &mut [C]) -> Res
         return Err(Refusal::TextTooLong);
     }
     let mut state = ReaderState::BeforeLine1;
+    // How many cubes stand at the front of the lent table: there is no heap for a `Vec`.
     let mut count = 0;
     for token in Tokens::new(text) {
         let (next, deed) = step(shape, state, token?)?;

@@ -3,7 +3,7 @@
 ghost use Rattle.std.specs.Prelude.{◌≡◌, map, length, take};
 ghost use Rattle.cube.specs.Slots.{blank_above};
 ghost use Rattle.text.specs.Output.{Lays, Overlaid};
-ghost use Rattle.sheet.specs.Writing.{filled, write_literal, write_literals, write_cube, write_cubes, write_sheet, Writes, Exact};
+ghost use Rattle.sheet.specs.Writing.{blanked, filled, write_literal, write_literals, write_cube, write_cubes, write_sheet, Writes, Exact};
 ghost use Rattle.sheet.specs.Trip.{Wrote, Returns};
 
 use crate::reading::MOST_BYTES;
@@ -46,7 +46,7 @@ fn count_literals<C: CubeNotation>(shape: Shape, cube: C) -> usize
 }
 
 // The literals of the shape's variables, in a second walk: a cube's line begins with how many there are.
-// Here and below shape, cubes and writer stay parameters: as fields of a struct they are named longer in each contract, which would say besides that the shape stays.
+// Shape, cube and writer stay parameters, here and below: as fields of a struct each contract would name them longer.
 fn put_literals<C: CubeNotation>(shape: Shape, cube: C, writer: &mut Writer)
     ensures { Lays writer.old (write_literals 1 (take shape.variables.value (C.slots cube))) writer.new }
 {
@@ -66,7 +66,7 @@ fn put_cube<C: CubeNotation>(shape: Shape, cube: C, writer: &mut Writer)
 }
 
 fn put_cubes<C: CubeNotation>(shape: Shape, cubes: &[C], writer: &mut Writer)
-    ensures { Lays writer.old (write_cubes (map (blank_above shape.variables.value) (map C.slots cubes.now))) writer.new }
+    ensures { Lays writer.old (write_cubes (blanked shape.variables.value C.slots cubes.now)) writer.new }
 {
     for cube in cubes {
         put_cube(shape, *cube, writer);
@@ -75,7 +75,7 @@ fn put_cubes<C: CubeNotation>(shape: Shape, cubes: &[C], writer: &mut Writer)
 
 // Lays the sheet over `out` as far as this goes, and returns how long it is.
 fn put_sheet<C: CubeNotation>(shape: Shape, cubes: &[C], out: &mut [u8]) -> usize
-    ensures { Overlaid out.old 0 (write_sheet shape.variables.value (map (blank_above shape.variables.value) (map C.slots cubes.now))) result out.new }
+    ensures { Overlaid out.old 0 (write_sheet shape.variables.value (blanked shape.variables.value C.slots cubes.now)) result out.new }
 {
     let mut sheet = Writer::new(out);
     sheet.put_number(shape.variables());
@@ -92,10 +92,10 @@ pub fn write_sheet<C: CubeNotation>(
     cubes: &[C],
     out: &mut [u8],
 ) -> Result<usize, Refusal>
-    ensures result { Writes (write_sheet shape.variables.value (map (blank_above shape.variables.value) (map C.slots cubes.now))) out.old result out.new }
-    ensures exact { Exact (length cubes.now) (write_sheet shape.variables.value (map (blank_above shape.variables.value) (map C.slots cubes.now))) out.old result }
-    ensures sheet { Wrote shape.variables.value (map (blank_above shape.variables.value) (map C.slots cubes.now)) result out.new }
-    ensures reads_back { Returns shape.variables.value (map (blank_above shape.variables.value) (map C.slots cubes.now)) result out.new }
+    ensures result { Writes (write_sheet shape.variables.value (blanked shape.variables.value C.slots cubes.now)) out.old result out.new }
+    ensures exact { Exact (length cubes.now) (write_sheet shape.variables.value (blanked shape.variables.value C.slots cubes.now)) out.old result }
+    ensures sheet { Wrote shape.variables.value (blanked shape.variables.value C.slots cubes.now) result out.new }
+    ensures reads_back { Returns shape.variables.value (blanked shape.variables.value C.slots cubes.now) result out.new }
 {
     let length = put_sheet(shape, cubes, &mut []);
     if length > out.len() || length > MOST_BYTES {

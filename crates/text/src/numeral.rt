@@ -2,7 +2,7 @@
 ghost use Rattle.std.specs.Prelude.{◌≡◌, ◌<◌, ◌≤◌, length};
 ghost use Rattle.text.specs.Numerals.{size_in, minus_in, signed};
 
-/// The bytes of a number: at most six, a minus among them or none.
+/// The bytes of a number: at most six, the first of them perhaps a minus.
 // No `PartialEq`: one number is written in several ways, as 7 and 007, and is compared by its `value`.
 #[derive(Clone, Copy, Debug)]
 pub struct Numeral<'a> {

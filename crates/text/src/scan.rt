@@ -6,6 +6,7 @@ ghost use Rattle.text.specs.declared.bytes.Kind.TheVariants.{Separator};
 use crate::bytes::Kind;
 
 /// The first place from `from` on at whose byte `stops` says yes, or the end of the text.
+// Each scan says its two bounds itself, as two short clauses: a record of them would be no plainer.
 pub fn first_from<F: Fn(u8) -> bool>(text: &[u8], from: usize, stops: F) -> usize
     requires { F.IsAlwaysCallable stops }
     ensures after { min from (length text.now) ≤ result }
