@@ -65,7 +65,7 @@ pub fn parse_first(line: CommandLine) -> Result<Option<i32>, Refusal>
 {
     parse_as(
         line,
-        |letter| letter == 'v',
+        |letter| matches!(letter, 'v'),
         |_, numbers| match numbers {
             [variables] => Ok(*variables),
             _ => Err(Refusal::WrongNumberCount),
