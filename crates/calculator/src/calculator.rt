@@ -33,7 +33,7 @@ impl Calculator {
     /// A calculator of this shape, with the empty cover in every register, for any register table.
     pub fn new(shape: Shape) -> Calculator
         ensures made { (result.shape ≡ shape) × ((cells : List Cube) → New (view result cells)) }
-        ensures law { (cells : List Cube) → Lived (view result cells) [] × Law (view result cells) [] }
+        ensures lives { (cells : List Cube) → Lived (view result cells) [] × Law (view result cells) [] }
     {
         Calculator {
             shape,

@@ -8,14 +8,19 @@ use std::alloc::{AllocError, Global};
 
 /// The tables that a host lends at each call.
 #[derive(Drop)]
-pub struct Tables<C> {
-    pub registers: Vec<C>,
-    pub working: Vec<C>,
+pub(crate) struct Tables<C> {
+    pub(crate) registers: Vec<C>,
+    pub(crate) working: Vec<C>,
 }
 
 impl<C: CubeNotation> Tables<C> {
     /// Tables of so many cubes and so much room, each place filled with the same cube.
-    pub fn new(heap: Global, fill: C, cubes: usize, room: usize) -> Result<Self, AllocError> {
+    pub(crate) fn new(
+        heap: Global,
+        fill: C,
+        cubes: usize,
+        room: usize,
+    ) -> Result<Self, AllocError> {
         Ok(Tables {
             registers: vec![in heap; fill; cubes]?,
             working: vec![in heap; fill; room]?,
@@ -23,7 +28,7 @@ impl<C: CubeNotation> Tables<C> {
     }
 
     /// A new calculator of n variables and four places a register that has read a text into register k.
-    pub fn read(&mut self, n: i32, k: i32, text: &[u8]) -> Result<Calculator, Refusal> {
+    pub(crate) fn read(&mut self, n: i32, k: i32, text: &[u8]) -> Result<Calculator, Refusal> {
         let mut calculator = Calculator::new(Shape::new(n, 4)?);
         let k = RegisterNumber::try_from(k)?;
         calculator.read(k, text, &mut self.registers, &mut self.working)?;
@@ -32,7 +37,7 @@ impl<C: CubeNotation> Tables<C> {
 }
 
 /// The length of what a write of register k leaves in the bytes given.
-pub fn write<C: CubeNotation>(
+pub(crate) fn write<C: CubeNotation>(
     calculator: &mut Calculator,
     k: i32,
     table: &[C],
@@ -42,19 +47,24 @@ pub fn write<C: CubeNotation>(
 }
 
 /// A text, and before it as many of a byte as make up a length.
-pub fn padded(heap: Global, fill: u8, text: &[u8], length: usize) -> Result<Vec<u8>, AllocError> {
+pub(crate) fn padded(
+    heap: Global,
+    fill: u8,
+    text: &[u8],
+    length: usize,
+) -> Result<Vec<u8>, AllocError> {
     let mut bytes = vec![in heap; fill; length.saturating_sub(text.len())]?;
     bytes.extend_from_slice(text)?;
     Ok(bytes)
 }
 
 /// An answer, or the number and the offset of its refusal.
-pub fn told<T>(answer: Result<T, Refusal>) -> Result<T, (u8, usize)> {
+pub(crate) fn told<T>(answer: Result<T, Refusal>) -> Result<T, (u8, usize)> {
     answer.map_err(|refusal| (refusal.number(), refusal.offset()))
 }
 
 /// What a row expects: this answer, or a refusal with that number, as a host sees it, and offset; 0 stands for none.
-pub fn expected<T: Copy>(answer: T, number: u8, offset: usize) -> Result<T, (u8, usize)> {
+pub(crate) fn expected<T: Copy>(answer: T, number: u8, offset: usize) -> Result<T, (u8, usize)> {
     match number {
         0 => Ok(answer),
         _ => Err((number, offset)),

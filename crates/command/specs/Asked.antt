@@ -67,8 +67,8 @@ asked_on first at (b ∷ rest) =
     cond (gap b) (asked_on first (at + 1) rest)
     (cond (admitted first b) (with_numbers b (numbers_in (stream between (at + 1) rest))) (Err (fault 50 at)))
 
--- an answer or a refusal, seen so
-abbrev pub answered : {T : Type 0} → (T → Asked) → Result T Refusal → Result Asked Fault
+-- an answer seen so, or its refusal
+abbrev pub answered : {T U : Type 0} → (T → U) → Result T Refusal → Result U Fault
 answered see (Ok x) = Ok (see x)
 answered see (Err f) = Err (fault_of f)
 

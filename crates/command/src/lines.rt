@@ -3,7 +3,7 @@ ghost use Rattle.std.specs.Prelude.{◌≡◌, ◌+◌, ◌<◌, ◌≤◌, [], 
 ghost use Rattle.std.specs.Option.{ForSome};
 ghost use Rattle.text.specs.Words.{split, feed};
 
-use text::scan::first_from;
+use text::scan::first_line_feed;
 
 /// One line: the text up to its end, so that offsets count in the whole text, where it starts, and its number from 1.
 #[derive(Clone, Copy)]
@@ -39,13 +39,14 @@ impl<'a> Lines<'a> {
 }
 
 // The place of the first line feed from `from` on, or the end of the text.
+#[tactic(auto, using(crate::proofs::Splits::up_to_feed))]
 fn line_end(text: &[u8], from: usize) -> usize
     ensures after { min from (length text.now) ≤ result }
     ensures within { result ≤ length text.now }
     ensures stops { result < length text.now → slice_index text.now result ≡ 10 }
     ensures same { split feed [] (drop from text.now) ≡ split feed (drop from (take result text.now)) (drop result text.now) }
 {
-    first_from(text, from, |byte| byte == b'\n')
+    first_line_feed(text, from)
 }
 
 impl<'a> Iterator for Lines<'a> {

@@ -13,7 +13,7 @@ use Rattle.command.specs.declared.report.Layer.TheVariants.{Sheet, Command, Calc
 use Rattle.command.specs.Report.{layer_name, report}
 use Rattle.session.specs.Page.{SheetsFit, ReportsFit}
 
-pub sheets_fit : SheetsFit
+pub sheets_fit : SheetsFit 9612
 sheets_fit v es lived few k h =
     let s = sound_of lived in
     let F = rows (given v) es k in
@@ -30,7 +30,7 @@ name_short Sheet = omega arith
 name_short Command = omega arith
 name_short Calculator = omega arith
 
-pub reports_fit : ReportsFit
+pub reports_fit : ReportsFit 9612
 unfolding report
 reports_fit line layer f a b c =
     let x = digits line a in

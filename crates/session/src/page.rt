@@ -7,6 +7,6 @@ pub const PAGE_BYTES: usize = 12 + 150 * 64;
 /// With a page of that size no line is refused with 8.
 #[tactic(auto, using(crate::proofs::Pages::sheets_fit, crate::proofs::Pages::reports_fit))]
 pub fn page_is_enough()
-    ensures sheets { SheetsFit }
-    ensures reports { ReportsFit }
+    ensures sheets { SheetsFit PAGE_BYTES }
+    ensures reports { ReportsFit PAGE_BYTES }
 {}

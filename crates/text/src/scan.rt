@@ -7,7 +7,7 @@ use crate::bytes::Kind;
 
 /// The first place from `from` on at whose byte `stops` says yes, or the end of the text.
 // Each scan says its two bounds itself, as two short clauses: a record of them would be no plainer.
-pub fn first_from<F: Fn(u8) -> bool>(text: &[u8], from: usize, stops: F) -> usize
+pub(crate) fn first_from<F: Fn(u8) -> bool>(text: &[u8], from: usize, stops: F) -> usize
     requires { F.IsAlwaysCallable stops }
     ensures after { min from (length text.now) ≤ result }
     ensures within { result ≤ length text.now }
@@ -27,4 +27,14 @@ pub fn past_separators(text: &[u8], from: usize) -> usize
     ensures passed { (k : ℕ) → from + k < result → kind (slice_index text.now (from + k)) ≡ Separator }
 {
     first_from(text, from, |b| Kind::from(b) != Kind::Separator)
+}
+
+/// The first place from `from` on that holds a line feed, or the end of the text.
+pub fn first_line_feed(text: &[u8], from: usize) -> usize
+    ensures after { min from (length text.now) ≤ result }
+    ensures within { result ≤ length text.now }
+    ensures stopped { result < length text.now → slice_index text.now result ≡ 10 }
+    ensures passed { (k : ℕ) → from + k < result → slice_index text.now (from + k) ≢ 10 }
+{
+    first_from(text, from, |b| b == b'\n')
 }

@@ -9,8 +9,8 @@ invariant_of-result c = record {
   within = λ k. let h = ap (λ r. r.count) (ap (λ rs. get_or rs k (of_count 0)) c.new.ensures ∙ no_registers 32 k) in omega (arith, h);
 }
 
-pub returns-clause-law : goal.returns-clause-law
-returns-clause-law c = λ cells. begins (record {
+pub returns-clause-lives : goal.returns-clause-lives
+returns-clause-lives c = λ cells. begins (record {
   variables = (omega arith, omega arith);
   room = (omega arith, omega arith);
   empty = c.new.ensures;
