@@ -97,6 +97,10 @@ pub fn write_sheet<C: CubeNotation>(
     ensures sheet { Wrote shape.variables.value (blanked shape.variables.value C.slots cubes.now) result out.new }
     ensures reads_back { Returns shape.variables.value (blanked shape.variables.value C.slots cubes.now) result out.new }
 {
+    // A sheet has more bytes than cubes: told before the walk, so that a long list costs nothing.
+    if cubes.len() > MOST_BYTES {
+        return Err(Refusal::OutputTooShort);
+    }
     let length = put_sheet(shape, cubes, &mut []);
     if length > out.len() || length > MOST_BYTES {
         return Err(Refusal::OutputTooShort);

@@ -1,10 +1,20 @@
-use Rattle.std.proofs.Common.{◌≤◌, map, length, Ok, ⊎_elim, arith}
+use Rattle.std.proofs.Common.{◌≤◌, map, length, refl, inr, Ok, ⊎_elim, arith}
+use Rattle.std.proofs.lemmas.List.{length-map}
 use Rattle.cube.specs.Slots.{Cover, blank_above}
 use Rattle.text.proofs.Overlays.{laid_front}
 use Rattle.sheet.specs.Writing.{write_sheet, Writes}
 use Rattle.sheet.proofs.Lengths.{above_short}
+use Rattle.sheet.proofs.Lines.{sheet_long}
 use Rattle.sheet.proofs.Wrotes.{good_above, returns_from, wrote_from}
 use Rattle.sheet.proofs.writing.write_sheet.Goals as goal
+
+pub returns-then-cubes-gt-MOST_BYTES-clause-result : goal.returns-then-cubes-gt-MOST_BYTES-clause-result
+returns-then-cubes-gt-MOST_BYTES-clause-result g c =
+    let n = c.args.shape.variables.value in
+    let xs = c.args.cubes.now in
+    let f = g.C.CubeNotation.slots in
+    let cs : Cover = map (blank_above n) (map f xs) in
+    (inr (omega (arith, sheet_long n cs, length-map (map f xs) (blank_above n), length-map xs f, c.if-cubes-gt-MOST_BYTES.true)), refl, refl)
 
 pub returns-then-length-out-clause-exact : goal.returns-then-length-out-clause-exact
 returns-then-length-out-clause-exact g c few =
