@@ -37,7 +37,12 @@ impl<'a> Numeral<'a> {
     pub fn value(self) -> i32
         ensures { result ≡ signed (minus_in self.entry.text.now) (size_in self.entry.text.now) }
     {
+        // The minus alone tells: of a zero it changes nothing, and the digits are walked once.
         let size = self.size() as i32;
-        if self.is_negative() { -size } else { size }
+        if self.text.starts_with(b"-") {
+            -size
+        } else {
+            size
+        }
     }
 }
