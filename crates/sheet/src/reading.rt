@@ -18,20 +18,22 @@ use text::tokens::{Token, Tokens};
 pub const MOST_BYTES: usize = 65535;
 
 /// Where the reader is.
+// Its counts are small and `usize` all the same: a state of words of one length is copied word by word at every token, and one of
+// halves across them, at which the processor waits.
 #[derive(Clone, Copy)]
 pub enum ReaderState {
     BeforeLine1,
     // Whether line 1 has ended; a flag and no fourth variant, since a rule of the project gives the reader three states.
     BeforeLine2 { fresh: bool },
     // How many cubes are still to come, and the line, where a number has been met on it.
-    AmongCubes { left: u32, line: Option<Literals> },
+    AmongCubes { left: usize, line: Option<Literals> },
 }
 
 /// How many literals a line still owes, none on line 2, and the last of its variables so far.
 #[derive(Clone, Copy)]
 pub struct Literals {
-    left: u32,
-    last: u32,
+    left: usize,
+    last: usize,
 }
 
 /// What a token asks of the cubes that are read.
@@ -97,11 +99,11 @@ fn on_line_1(shape: Shape, numeral: Numeral, at: usize) -> Step
 }
 
 // The number, where it is one from 0 to `most`.
-fn count_up_to(numeral: Numeral, most: u16) -> Option<u32>
+fn count_up_to(numeral: Numeral, most: u16) -> Option<usize>
     ensures { result ≡ cond (minus_in numeral.entry.text.now || nat_lt most (size_in numeral.entry.text.now)) None (Some (size_in numeral.entry.text.now)) }
 {
-    let count = u32::try_from(numeral.value()).ok()?;
-    (count <= u32::from(most)).then_some(count)
+    let count = usize::try_from(numeral.value()).ok()?;
+    (count <= usize::from(most)).then_some(count)
 }
 
 // Line 2 holds the number of cubes.
@@ -114,7 +116,7 @@ fn on_line_2(shape: Shape, numeral: Numeral, at: usize) -> Step
 }
 
 // The line of a cube begins with how many literals it has.
-fn next_cube(shape: Shape, left: u32, numeral: Numeral, at: usize) -> Step
+fn next_cube(shape: Shape, left: usize, numeral: Numeral, at: usize) -> Step
     ensures { told result ≡ step_of shape.variables.value shape.places.value (ReaderState.AmongCubes left None) (num numeral.entry.text.now at) }
 {
     let left = left.checked_sub(1).ok_or(Refusal::NumberTooMany { at })?;
@@ -127,7 +129,7 @@ fn next_cube(shape: Shape, left: u32, numeral: Numeral, at: usize) -> Step
     Ok((ReaderState::AmongCubes { left, line }, Some(Deed::Open)))
 }
 
-fn next_literal(shape: Shape, left: u32, line: Literals, numeral: Numeral, at: usize) -> Step
+fn next_literal(shape: Shape, left: usize, line: Literals, numeral: Numeral, at: usize) -> Step
     ensures { told result ≡ step_of shape.variables.value shape.places.value (ReaderState.AmongCubes left (Some line)) (num numeral.entry.text.now at) }
 {
     if line.left == 0 {
@@ -138,13 +140,13 @@ fn next_literal(shape: Shape, left: u32, line: Literals, numeral: Numeral, at: u
     if variable == 0 || variable > u32::from(shape.variables()) {
         return Err(Refusal::LiteralBeyondRange { at });
     }
-    if variable <= line.last {
+    if variable as usize <= line.last {
         return Err(Refusal::LiteralNotRising { at });
     }
     let slot = if literal < 0 { Slot::No } else { Slot::Yes };
     let line = Some(Literals {
         left: line.left - 1,
-        last: variable,
+        last: variable as usize,
     });
     Ok((
         ReaderState::AmongCubes { left, line },
