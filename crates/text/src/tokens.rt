@@ -1,7 +1,7 @@
 // The tokens of a text, one after another, each a part of the text.
 ghost use Rattle.std.specs.Prelude.{◌≡◌, ℕ, ◌+◌, ◌-◌, ◌<◌, ◌≤◌, min, length, drop, MatchResult, ◌≢◌, slice_index};
 ghost use Rattle.text.specs.Bytes.{kind};
-ghost use Rattle.text.specs.Tokens.{stream, digits, span, tok_of, Step, Faulty};
+ghost use Rattle.text.specs.Tokens.{stream, digits, span, num, Step, Faulty};
 ghost use Rattle.text.specs.Scanning.{Opens, Closes};
 ghost use Rattle.text.specs.declared.bytes.Kind.TheVariants.{Separator, LineFeed, Digit};
 
@@ -69,21 +69,19 @@ fn number_end(text: &[u8], start: usize, first: usize) -> Result<usize, Refusal>
     Ok(end)
 }
 
-// The token that begins at `start`, and where it ends.
-fn token_at(text: &[u8], start: usize) -> Result<(Token<'_>, usize), Refusal>
+// The number that begins at `start`, and where it ends.
+fn number_at(text: &[u8], start: usize) -> Result<(Numeral<'_>, usize), Refusal>
     requires inside { start < length text.now }
     requires word { kind (slice_index text.now start) ≢ Separator }
-    ensures { MatchResult result (λ p. Step text.now start (tok_of p.0) p.1) (λ f. Faulty text.now start f) }
+    requires line { kind (slice_index text.now start) ≢ LineFeed }
+    ensures { MatchResult result (λ p. Step text.now start (num p.0.text.now start) p.1) (λ f. Faulty text.now start f) }
 {
-    if Kind::from(text[start]) == Kind::LineFeed {
-        return Ok((Token::LineEnd { at: start }, start + 1));
-    }
     let first = first_digit(text, start)?;
     let end = number_end(text, start, first)?;
     let numeral = Numeral {
         text: &text[start..end],
     };
-    Ok((Token::Number { numeral, at: start }, end))
+    Ok((numeral, end))
 }
 
 /// A place in a text, from which on the text's tokens are read.
@@ -130,10 +128,15 @@ impl<'a> Iterator for Tokens<'a> {
             self.place = start;
             return None;
         }
-        match token_at(text, start) {
-            Ok((token, end)) => {
+        // Answered here and not by a function for every token, so that an empty line costs no more than its one byte.
+        if Kind::from(text[start]) == Kind::LineFeed {
+            self.place = start + 1;
+            return Some(Ok(Token::LineEnd { at: start }));
+        }
+        match number_at(text, start) {
+            Ok((numeral, end)) => {
                 self.place = end;
-                Some(Ok(token))
+                Some(Ok(Token::Number { numeral, at: start }))
             }
             Err(refusal) => {
                 self.place = text.len();
