@@ -18,6 +18,7 @@ use Rattle.life.specs.Law.{LivesOn}
 use Rattle.life.proofs.Ends.{read_table_short, read_working_short, read_at_fault, read_taken, write_table_short}
 use Rattle.life.proofs.Lawful.{lives_on}
 use Rattle.calculator.specs.declared.calculator.Calculator.{Calculator}
+use Rattle.calculator.specs.Records.{registers_of}
 use Rattle.calculator.specs.Kept.{count_of}
 use Rattle.calculator.specs.Seen.{view, done_outcome, text_outcome}
 use Rattle.calculator.proofs.Reading.{read_err, read_ok, filled_view}
@@ -57,15 +58,15 @@ module _ {X : Type 0} (slots : X → Cube) (m : Calculator) (t : List X) (k : �
   pub full_read_lives : (bytes : List ℕ) (w : ℕ) (work t' : List X) (n : ℕ) (u : Calculator)
       → 32 * m.shape.places.value ≤ length t → 64 * m.shape.places.value ≤ w → length work ≡ w
       → Reads (read_into m.shape.variables.value m.shape.places.value w bytes) (Ok n) (map slots work) → n ≤ m.shape.places.value
-      → u.shape ≡ m.shape → u.registers ≡ set m.registers k (of_count n) → t' ≡ written t (k * m.shape.places.value) (take n work)
+      → u.shape ≡ m.shape → registers_of u.registers ≡ set (registers_of m.registers) k (of_count n) → t' ≡ written t (k * m.shape.places.value) (take n work)
       → LivesOn (view m (map slots t)) (event (read k (sheet bytes)) w (accepted done)) (view u (map slots t'))
   full_read_lives bytes w work t' n u h l size reads few shape registers cells =
       let v = view m (map slots t) in
       let long : LongTables (given v) w = (simp length-map (omega arith), l) in
       let e = read_ok v.n v.places w bytes n (map slots work) (omega arith) reads in
-      let after = filled_view slots v t t' work u.registers k n refl (omega arith) registers cells in
-      let same : view u (map slots t') ≡ record { n = v.n; places = v.places; registers = u.registers; cells = map slots t'; stage = free } =
-      ap (λ z. record { n = z.variables.value; places = z.places.value; registers = u.registers; cells = map slots t'; stage = free }) shape in
+      let after = filled_view slots v t t' work (registers_of u.registers) k n refl (omega arith) registers cells in
+      let same : view u (map slots t') ≡ record { n = v.n; places = v.places; registers = registers_of u.registers; cells = map slots t'; stage = free } =
+      ap (λ z. record { n = z.variables.value; places = z.places.value; registers = registers_of u.registers; cells = map slots t'; stage = free }) shape in
       lives_on {w = view u (map slots t')} below refl (read_taken v k bytes w (take n (map slots work)) (view u (map slots t')) long e (same ∙ after))
 
   -- a write of the cubes from the first place of the register on, as many as its record says

@@ -3,9 +3,10 @@ use Rattle.std.specs.Prelude.{◌≡◌, ℕ, ◌+◌, ◌*◌, ◌≤◌, List,
 use Rattle.cube.specs.declared.refusal.Refusal.{Refusal}
 use Rattle.life.specs.View.{of_count}
 use Rattle.calculator.specs.declared.calculator.Calculator.{Calculator}
+use Rattle.calculator.specs.Records.{registers_of}
 
 abbrev pub count_of : Calculator → ℕ → ℕ
-count_of c k = (slice_index_or c.registers k (of_count 0)).count
+count_of c k = (slice_index_or (registers_of c.registers) k (of_count 0)).count
 
 -- every element but so many from a place on is as it was
 pub record Elsewhere {C : Type 0} (start count : ℕ) (before after : List C) : Type 0 where

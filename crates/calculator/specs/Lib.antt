@@ -1,2 +1,3 @@
+pub mod Records
 pub mod Seen
 pub mod Kept

@@ -4,6 +4,7 @@ use Rattle.cube.specs.declared.refusal.Refusal.{Refusal}
 use Rattle.cube.specs.Refusals.{fault_of}
 use Rattle.cube.specs.Slots.{Cover}
 use Rattle.calculator.specs.declared.calculator.Calculator.{Calculator}
+use Rattle.calculator.specs.Records.{registers_of}
 use Rattle.life.specs.Call.{Outcome}
 use Rattle.life.specs.Call.Outcome.{refused, accepted}
 use Rattle.life.specs.Call.Answer.{done, text}
@@ -11,7 +12,7 @@ use Rattle.life.specs.Call.Stage.{free}
 use Rattle.life.specs.View.{View}
 
 abbrev pub view : Calculator → Cover → View
-view c cells = record { n = c.shape.variables.value; places = c.shape.places.value; registers = c.registers; cells = cells; stage = free }
+view c cells = record { n = c.shape.variables.value; places = c.shape.places.value; registers = registers_of c.registers; cells = cells; stage = free }
 
 abbrev pub done_outcome : {X : Type 0} → Result X Refusal → Outcome
 done_outcome (Ok x) = accepted done

@@ -2,6 +2,7 @@
 ghost use Rattle.std.specs.Prelude.{◌≡◌, ℕ, ◌+◌, ◌*◌, ◌<◌, ◌≤◌, List, [], ◌∷◌, ◌++◌, map, length, take, drop, slice_set, slice_index_or};
 ghost use Rattle.cube.specs.Slots.{Cube};
 ghost use Rattle.life.specs.View.{of_count};
+ghost use Rattle.calculator.specs.Records.{registers_of};
 
 use crate::register::RegisterNumber;
 use crate::registers::{REGISTERS, Registers};
@@ -16,7 +17,7 @@ use sheet::writing::write_sheet;
 pub struct Calculator {
     shape: Shape,
     registers: Registers,
-    ghost within: { (k : ℕ) → (slice_index_or registers k (of_count 0)).count ≤ shape.places.value },
+    ghost within: { (k : ℕ) → (slice_index_or (registers_of registers) k (of_count 0)).count ≤ shape.places.value },
 }
 
 // The tables are slices that the host lends at each call, by a rule of the project: the library has no heap, and a calculator keeps no table.
@@ -105,7 +106,7 @@ impl Calculator {
         ensures shape { self.new.shape ≡ self.old.shape }
         ensures cells { table.new ≡ written table.old (k.number.value * self.old.shape.places.value) (take count working.now) }
         ensures held { count_of self.new k.number.value ≡ count }
-        ensures records { self.new.registers ≡ slice_set self.old.registers k.number.value (of_count count) }
+        ensures records { registers_of self.new.registers ≡ slice_set (registers_of self.old.registers) k.number.value (of_count count) }
     {
         let start = self.first_place(k);
         table[start..start + count].copy_from_slice(&working[..count]);

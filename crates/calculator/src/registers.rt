@@ -1,9 +1,9 @@
 // The records of the 32 registers: within the calculator, so that no host changes a count behind it.
 ghost use Rattle.std.specs.Prelude.{◌≡◌, replicate, slice_index_or, slice_set};
 ghost use Rattle.life.specs.View.{of_count};
+ghost use Rattle.calculator.specs.Records.{registers_of};
 
 use crate::register::RegisterNumber;
-use std::marker::Model;
 
 /// How many registers a calculator has; clauses say 32, as the definitions do.
 pub const REGISTERS: usize = 32;
@@ -14,27 +14,17 @@ pub struct Record {
     count: u16,
 }
 
-impl Model for Record {
-    ghost use Rattle.life.specs.View.{Register, of_count};
-
-    ghost Value = { Register };
-
-    ghost view = { λ r. of_count r.count };
-
-    ghost inverse = { λ r. record { count = r.count } };
-}
-
 impl Record {
     /// The record of a register that holds no cube.
     pub fn empty() -> Record
-        ensures { result ≡ of_count 0 }
+        ensures { result.count ≡ 0 }
     {
         Record { count: 0 }
     }
 
     /// The register holds so many cubes from now on.
     pub fn hold(&mut self, count: u16)
-        ensures { self.new ≡ of_count count }
+        ensures { self.new.count ≡ count }
     {
         self.count = count;
     }
@@ -53,20 +43,9 @@ pub struct Registers {
     records: [Record; REGISTERS],
 }
 
-impl Model for Registers {
-    ghost use Rattle.std.specs.Prelude.{List};
-    ghost use Rattle.life.specs.View.{Register};
-
-    ghost Value = { List Register };
-
-    ghost view = { λ r. r.records };
-
-    ghost inverse = { λ records. record { records = records } };
-}
-
 impl Registers {
     pub fn new() -> Registers
-        ensures { result ≡ replicate 32 (of_count 0) }
+        ensures { registers_of result ≡ replicate 32 (of_count 0) }
     {
         Registers {
             records: [Record::empty(); REGISTERS],
@@ -75,15 +54,15 @@ impl Registers {
 
     /// How many cubes register k holds.
     pub fn count(&self, k: RegisterNumber) -> u16
-        ensures { result ≡ (slice_index_or self.now k.number.value (of_count 0)).count }
+        ensures { result ≡ (slice_index_or (registers_of self.now) k.number.value (of_count 0)).count }
     {
         self.records[usize::from(k)].count()
     }
 
     /// Register k holds so many cubes from now on.
     pub fn hold(&mut self, k: RegisterNumber, count: u16)
-        ensures records { self.new ≡ slice_set self.old k.number.value (of_count count) }
-        ensures held { slice_index_or self.new k.number.value (of_count 0) ≡ of_count count }
+        ensures records { registers_of self.new ≡ slice_set (registers_of self.old) k.number.value (of_count count) }
+        ensures held { slice_index_or (registers_of self.new) k.number.value (of_count 0) ≡ of_count count }
     {
         self.records[usize::from(k)].hold(count);
     }
