@@ -2,8 +2,10 @@
 ghost use Rattle.std.specs.Prelude.{◌≡◌, ◌<◌, ◌≤◌, max, min, pos, MatchOption};
 ghost use Rattle.cube.specs.Ranges.{Outside};
 
+use std::fmt;
+
 /// A whole number from LOW to HIGH.
-#[derive(Clone, Copy, PartialEq, Eq, Debug)]
+#[derive(Clone, Copy, PartialEq, Eq)]
 pub struct Ranged<const LOW: u16, const HIGH: u16> {
     value: u16,
     ghost low: { LOW ≤ value },
@@ -40,5 +42,16 @@ impl<const LOW: u16, const HIGH: u16> Ranged<LOW, HIGH> {
         ensures within { (LOW ≤ result) × (result ≤ HIGH) }
     {
         self.value
+    }
+}
+
+// By hand: what holds a number prints it as a number, `number: 3`.
+impl<const LOW: u16, const HIGH: u16> fmt::Debug for Ranged<LOW, HIGH> {
+    ghost use Rattle.std.specs.Prelude.{decimal, Some};
+
+    ghost debug_output = { λ r. Some (decimal r.value) };
+
+    fn fmt<W: fmt::Write>(&self, f: &mut fmt::Formatter<W>) -> fmt::Result {
+        fmt::Debug::fmt(&self.value, f)
     }
 }

@@ -3,7 +3,6 @@ ghost use Rattle.std.specs.Prelude.{◌≡◌, ◌<◌, ◌≤◌, length};
 ghost use Rattle.text.specs.Numerals.{size_in, minus_in, signed};
 
 /// The bytes of a number: at most six, the first of them perhaps a minus.
-// No `PartialEq`: one number is written in several ways, as 7 and 007, and is compared by its `value`.
 #[derive(Clone, Copy, Debug)]
 pub struct Numeral<'a> {
     pub text: &'a [u8],
@@ -45,4 +44,26 @@ impl<'a> Numeral<'a> {
             size
         }
     }
+}
+
+/// Two are equal where they write the same number: 007 is 7, and -0 is 0.
+impl PartialEq for Numeral<'_> {
+    ghost use Rattle.std.proofs.Common.{rules};
+    ghost use Rattle.std.specs.Cmp.Rules.{comparing};
+    ghost use Rattle.std.specs.Ordering.{on, int_eq};
+
+    ghost eq = { on (λ n. signed (minus_in n.text.now) (size_in n.text.now)) int_eq };
+
+    ghost laws = { Prim.search (comparing, rules) };
+
+    fn eq(&self, other: &Self) -> bool {
+        self.value() == other.value()
+    }
+}
+
+impl Eq for Numeral<'_> {
+    ghost use Rattle.std.proofs.Common.{rules};
+    ghost use Rattle.std.specs.Cmp.Rules.{comparing};
+
+    ghost laws = { Prim.search (comparing, rules) };
 }
