@@ -14,24 +14,24 @@ use Rattle.text.specs.Tokens.{tokens_from}
 use Rattle.text.proofs.Runs.{same_up_to}
 use Rattle.command.specs.Asked.{Asked, admitted, asked_on, numbers_in, parsed_as, with_numbers}
 
-is_gap : (b : ℕ) → kind b ≡ Separator → gap b ≡ true
+pub is_gap : (b : ℕ) → kind b ≡ Separator → gap b ≡ true
 is_gap b e = grind (arith, nat_tests)
 
 no_gap : (b : ℕ) → (kind b ≡ Separator → ⊥) → gap b ≡ false
 no_gap b e = grind (arith, nat_tests)
 
 module _ (first : Bool) (xs : List ℕ) (p : ℕ) where
-  no_letter : length xs ≤ p → asked_on first p (drop p xs) ≡ Ok None
+  pub no_letter : length xs ≤ p → asked_on first p (drop p xs) ≡ Ok None
   no_letter h = at_drop_all (asked_on first p) xs p h
 
-  gap_more : p < length xs → gap (get_or xs p 0) ≡ true → asked_on first p (drop p xs) ≡ asked_on first (p + 1) (drop (p + 1) xs)
+  pub gap_more : p < length xs → gap (get_or xs p 0) ≡ true → asked_on first p (drop p xs) ≡ asked_on first (p + 1) (drop (p + 1) xs)
   gap_more h e = at_drop_more (asked_on first p) xs p 0 h ∙ cond-true _ _ _ e
 
 -- the bytes from p on, as the code slices them
 abbrev pub rest : List ℕ → ℕ → List ℕ
 rest xs p = take (length xs - p) (drop p xs)
 
-length_rest : (xs : List ℕ) (p : ℕ) → length (rest xs p) ≡ length xs - p
+pub length_rest : (xs : List ℕ) (p : ℕ) → length (rest xs p) ≡ length xs - p
 length_rest xs p = ap length (take_rest xs p) ∙ length-drop p xs
 
 -- the separators from `from` on end at p

@@ -1,9 +1,11 @@
 -- The numbers of a line as commands take them.
-use Rattle.std.proofs.Common.{◌≡◌, ℕ, ◌≤◌, List, [], ◌∷◌, ◌++◌, length, take, ℤ, Some, Ok, Err, Option, Result, OnOk, OnErr, refl, sym, ap, ◌∙◌, append_assoc, arith}
+use Rattle.std.proofs.Common.{◌≡◌, ℕ, ◌<◌, ◌≤◌, List, [], ◌∷◌, ◌++◌, length, take, ℤ, pos, negsuc, Some, Ok, Err, Option, Result, OnOk, OnErr, refl, sym, ap, ◌∙◌, inl, inr, append_assoc, arith}
 use Rattle.std.proofs.lemmas.List.{take-append-le}
+use Rattle.std.proofs.lemmas.Bool.Decides.{nat_tests}
 use Rattle.arrayvec.specs.ArrayVec.{ArrayVec}
-use Rattle.cube.specs.Refusals.{Fault}
-use Rattle.command.specs.Asked.{Asked, asked_by, and_then, with_numbers}
+use Rattle.cube.specs.Ranges.{Outside}
+use Rattle.cube.specs.Refusals.{Fault, fault}
+use Rattle.command.specs.Asked.{Asked, asked_by, of_register, and_then, with_numbers}
 use Rattle.command.specs.Counted.{first_two, two_of}
 
 -- v is w with z pushed, where there is room for it
@@ -33,3 +35,14 @@ counted b (Ok zs) numbers a e is =
     let same : numbers ≡ take 2 zs = cc in
     ap some_of (sym (is ∙ ap (asked_by b) same ∙ asked_by_two b zs))
 counted b (Err g) numbers a e is = let no : ◌≡◌ {A = ℕ} 0 1 = cc in absurd (omega arith)
+
+pub asked_at : {letter l : ℕ} {zs ys : List ℤ} → letter ≡ l → zs ≡ ys → asked_by l ys ≡ asked_by letter zs
+asked_at e f = cc
+
+pub is_register : (ask : ℕ → Asked) (k : ℕ) (z : ℤ) → k < 32 → pos k ≡ z → Ok (ask k) ≡ of_register ask z
+is_register ask k z h e = let near : Ok (ask k) ≡ of_register ask (pos k) = grind (arith, nat_tests) in near ∙ ap (of_register ask) e
+
+pub no_register : (ask : ℕ → Asked) (z : ℤ) → Outside 0 31 z → Err (fault 1 0) ≡ of_register ask z
+no_register ask (pos k) (inl h) = absurd (omega arith)
+no_register ask (pos k) (inr h) = grind (arith, nat_tests)
+no_register ask (negsuc k) h = refl

@@ -1,6 +1,6 @@
--- What a line after the first command can ask: it reads or prints one of the 32 registers, or ends the run.
-use Rattle.std.proofs.Common.{◌≡◌, ℕ, ◌+◌, ◌<◌, Bool, true, false, eqb, leb, List, [], ◌∷◌, ℤ, pos, negsuc, IfOk, Some, None, Ok, Err, Option, Result, subst, arith}
-use Rattle.std.proofs.lemmas.Bool.{cond_both, leb-true}
+-- What a line can ask: the first command makes a calculator, and a later one reads or prints one of the 32 registers, or ends the run.
+use Rattle.std.proofs.Common.{◌≡◌, ℕ, ◌+◌, ◌<◌, Bool, true, false, eqb, leb, List, [], ◌∷◌, ℤ, pos, negsuc, IfOk, Some, None, Ok, Err, Option, Result, sym, refl, subst, arith}
+use Rattle.std.proofs.lemmas.Bool.{cond_both, leb-true, eqb-true}
 use Rattle.std.proofs.lemmas.Bool.Decides.{nat_tests}
 use Rattle.cube.specs.Refusals.{Fault, fault}
 use Rattle.text.specs.Words.{gap}
@@ -48,6 +48,22 @@ made_register P ask h (pos k) =
     cond_both (leb k 31) (Ok (ask k)) (Err (fault 1 0)) (λ r. IfOk r P) (λ e. h k (omega (arith, leb-true k 31 e))) (λ _. tt)
 made_register P ask h (negsuc k) = tt
 
+-- the first command
+abbrev First : Asked → Type 0
+First (make z) = Unit {0}
+First (read k) = ⊥
+First (print k) = ⊥
+First quit = ⊥
+
+first_by : (b : ℕ) (zs : List ℤ) → admitted true b ≡ true → IfOk (asked_by b zs) First
+first_by b zs h = subst (λ l. IfOk (asked_by l zs) First) (sym (eqb-true b 118 h)) (made_one First _ (λ z. tt) zs)
+
+is_make : (a : Asked) → First a → (z : ℤ) × (a ≡ make z)
+is_make (make z) h = (z, refl)
+is_make (read k) h = absurd h
+is_make (print k) h = absurd h
+is_make quit h = absurd h
+
 -- a later one
 abbrev Later : Asked → Type 0
 Later (make z) = ⊥
@@ -66,8 +82,14 @@ later_by b zs h =
     (λ _. made_none Later quit tt zs)))
 
 module _ (l : Line) where
+  pub first_makes : (a : Asked) → asked_on true l.at l.bytes ≡ Ok (Some a) → (z : ℤ) × (a ≡ make z)
+  first_makes a e = is_make a (subst (Asks First) e (asks_on First true first_by l.at l.bytes))
+
   later : (a : Asked) → asked_on false l.at l.bytes ≡ Ok (Some a) → Later a
   later a e = subst (Asks Later) e (asks_on Later false later_by l.at l.bytes)
+
+  pub never_makes : (z : ℤ) → asked_on false l.at l.bytes ≡ Ok (Some (make z)) → ⊥
+  never_makes z e = later (make z) e
 
   pub read_below : (k : ℕ) → asked_on false l.at l.bytes ≡ Ok (Some (read k)) → k < 32
   read_below k e = later (read k) e

@@ -1,6 +1,6 @@
 -- A run goes on line by line.
-use Rattle.std.proofs.Common.{is_some, map, ControlFlow, Continue, Break, ◌≡◌, ℕ, ◌≤◌, true, List, [], ◌∷◌, ◌++◌, length, IfOk, Some, None, Ok, Err, vec_items, Option, Result, sym, refl, ap, ◌∙◌, subst, append_assoc, append-nil, arith, length-append}
-use Rattle.std.proofs.lemmas.List.{nil_from_length}
+use Rattle.std.proofs.Common.{is_some, map, ControlFlow, Continue, Break, ◌≡◌, ℕ, ◌≤◌, true, List, [], ◌∷◌, ◌++◌, length, take, drop, IfOk, Some, None, Ok, Err, vec_items, Option, Result, sym, refl, ap, ◌∙◌, subst, append_assoc, append-nil, arith, length-append}
+use Rattle.std.proofs.lemmas.List.{nil_from_length, take_at}
 use Rattle.std.proofs.lemmas.Bool.{cond-true, le-leb}
 use Rattle.cube.specs.Refusals.{Fault}
 use Rattle.cube.specs.Slots.{Cube, Cover}
@@ -8,6 +8,7 @@ use Rattle.life.specs.Call.{Event}
 use Rattle.life.specs.View.{View}
 use Rattle.command.specs.declared.report.Layer.{Layer}
 use Rattle.command.specs.Lines.{Line, lines_of}
+use Rattle.command.specs.Output.{Put}
 use Rattle.command.specs.Report.{report}
 use Rattle.calculator.specs.declared.calculator.Calculator.{Calculator}
 use Rattle.session.specs.declared.run.Run.{Run}
@@ -89,10 +90,19 @@ finished slots {at} {ls} {s} is prints m left = record {
 pub in_setting : {at at' : Setting} {ls rest : List Line} {s : Status} {out : List ℕ} → at ≡ at' → Midway at ls rest s out → Midway at' ls rest s out
 in_setting {at} {at'} {ls} {rest} {s} {out} e m = subst (λ z. Midway z ls rest s out) e m
 
+pub of_text : {at : Setting} {ls ls' rest : List Line} {s : Status} {out : List ℕ} → ls ≡ ls' → Midway at ls rest s out → Midway at ls' rest s out
+of_text {at} {ls} {ls'} {rest} {s} {out} e m = subst (λ z. Midway at z rest s out) e m
+
 -- what was put into the bytes is no longer than they are
 pub put_within : (t before after : List ℕ) (r : Result ℕ Failure) → Into t before r after → IfOk r (λ k. k ≤ length after)
 put_within t before after (Ok k) p = omega (arith, p.size, simp length-append at (ap length p.over))
 put_within t before after (Err f) p = tt
+
+-- what was put into the bytes stands at their front, and is printed
+pub front_printed : (at : Setting) (line : ℕ) {t before after : List ℕ} {k : ℕ} → at.room ≡ length before → Put t before k after → take k after ≡ printed at line t
+front_printed at line {t} {before} {after} {k} room p =
+    let fits : length t ≤ at.room = omega (arith, p.fits) in
+    ap (take k) p.over ∙ take_at t (drop k before) k (sym p.size) ∙ sym (cond-true _ _ _ (le-leb (length t) at.room fits))
 
 -- the run that finished leaves the table as it is behind the reference
 pub finished_text : {C : Type 0} (slots : C → Cube) {at : Setting} {ls : List Line} {table table' : List C} {calculator : Calculator} (text : List ℕ) (run : Run) → ls ≡ lines_of text → Finished at ls calculator (map slots table) (vec_items run.output) → run.calculator ≡ Some calculator → table' ≡ table → TextRan at text run (map slots table')

@@ -16,7 +16,7 @@ literals_push k (x ∷ c) v =
     ap (λ z. write_literal k x ++ z) (literals_push (k + 1) c v ∙ ap (λ i. write_literals (k + 1) c ++ write_literal i v) e)
     ∙ sym (append_assoc (write_literal k x) (write_literals (k + 1) c) (write_literal (k + suc (length c)) v))
 
-literals_more : (c : Cube) (i : ℕ) → i < length c → write_literals 1 (take i c) ++ write_literal (i + 1) (get_or c i Blank) ≡ write_literals 1 (take (i + 1) c)
+pub literals_more : (c : Cube) (i : ℕ) → i < length c → write_literals 1 (take i c) ++ write_literal (i + 1) (get_or c i Blank) ≡ write_literals 1 (take (i + 1) c)
 literals_more c i h =
     let l : length (take i c) ≡ i = length-take-le i c (omega arith) in
     let e : i + 1 ≡ 1 + length (take i c) = omega arith in
@@ -36,7 +36,7 @@ filled_push (No ∷ c) v = omega (arith, filled_push c v)
 filled_push (Yes ∷ c) v = omega (arith, filled_push c v)
 filled_push (Blank ∷ c) v = filled_push c v
 
-filled_more : (c : Cube) (i : ℕ) → i < length c → filled (take (i + 1) c) ≡ filled (take i c) + filled (get_or c i Blank ∷ [])
+pub filled_more : (c : Cube) (i : ℕ) → i < length c → filled (take (i + 1) c) ≡ filled (take i c) + filled (get_or c i Blank ∷ [])
 filled_more c i h = ap filled (take_more c i Blank h) ∙ filled_push (take i c) (get_or c i Blank)
 
 -- as many as before the variable v, and one more if its slot is not Blank
@@ -78,7 +78,7 @@ filled_above (suc n) (No ∷ c) = ap suc (filled_above n c)
 filled_above (suc n) (Yes ∷ c) = ap suc (filled_above n c)
 filled_above (suc n) (Blank ∷ c) = filled_above n c
 
-cube_above : (n : ℕ) (c : Cube) → decimal (filled (take n c)) ++ (write_literals 1 (take n c) ++ 10 ∷ []) ≡ write_cube (blank_above n c)
+pub cube_above : (n : ℕ) (c : Cube) → decimal (filled (take n c)) ++ (write_literals 1 (take n c) ++ 10 ∷ []) ≡ write_cube (blank_above n c)
 cube_above n c =
     ap (λ k. decimal k ++ (write_literals 1 (take n c) ++ 10 ∷ [])) (sym (filled_above n c))
     ∙ ap (λ z. decimal (filled (blank_above n c)) ++ (z ++ 10 ∷ [])) (sym (literals_above n 1 c))

@@ -181,3 +181,7 @@ module _ (n most : ℕ) (text : List ℕ) (cubes : Cover) (s : Sheet n most text
 
   pub sheet_blank : map (blank_above n) cubes ≡ cubes
   sheet_blank = subst (λ cs. map (blank_above n) cs ≡ cs) (sym s.shows) (shown_blank n most (numbers_on text) s.lines)
+
+-- a text shows one list of cubes, whatever the shape that it is read in
+pub sheet_one : (n most m many : ℕ) (text : List ℕ) (cubes others : Cover) → Sheet n most text cubes → Sheet m many text others → cubes ≡ others
+sheet_one n most m many text cubes others s t = s.shows ∙ sym t.shows

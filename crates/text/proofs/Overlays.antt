@@ -39,6 +39,9 @@ laid_front {out} {text} {out'} {r} l h few =
     let e : r ≡ length text = omega (arith, l.place) in
     (e, l.over ∙ overlay_fits out text h ∙ ap (λ k. text ++ drop k out) (sym e))
 
+pub lays_none : (w : Writer) → Lays w [] w
+lays_none w = record { same_reference = refl; laid = record { place = omega (arith, w.countable.1); over = refl } }
+
 pub lays_then : {w m w' : Writer} {xs ys : List ℕ} → Lays w xs m → Lays m ys w' → Lays w (xs ++ ys) w'
 lays_then {w} {m} {w'} {xs} {ys} a b =
     record {
