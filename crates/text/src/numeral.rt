@@ -36,13 +36,10 @@ impl<'a> Numeral<'a> {
     pub fn value(self) -> i32
         ensures { result ≡ signed (minus_in self.entry.text.now) (size_in self.entry.text.now) }
     {
-        // The minus alone tells: of a zero it changes nothing, and the digits are walked once.
         let size = self.size() as i32;
-        if self.text.starts_with(b"-") {
-            -size
-        } else {
-            size
-        }
+        // Without a look at the size: of zero a minus changes nothing, and the digits are walked once.
+        let minus = self.text.starts_with(b"-");
+        if minus { -size } else { size }
     }
 }
 
